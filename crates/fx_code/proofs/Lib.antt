@@ -1,0 +1,3 @@
+mod FirstFault
+mod Kept
+pub mod Words

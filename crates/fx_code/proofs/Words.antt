@@ -1,0 +1,29 @@
+-- What a word is, and that it is a floored sum where the row is exact.
+use Rattle.std.proofs.Common.{◌≡◌, ℕ, zero, suc, ◌^◌, ◌<◌, length, ap, ◌∙◌, inl, inr, arith}
+use Rattle.std.proofs.Math.IntN.{ℤ}
+use Rattle.std.proofs.lemmas.Bool.{cases_lt}
+use Rattle.std.proofs.lemmas.Bool.Decides.{nat_tests}
+use Rattle.fx_math.specs.Division.{floor_div}
+use Rattle.fx_math.specs.Residue.{wrap}
+use Rattle.fx_math.specs.Unroll.{fill, last}
+use Rattle.fx_math.proofs.Residue.{wrap_fits}
+use Rattle.fx_code.specs.Code.{Code, row_at}
+use Rattle.fx_code.specs.Fits.{RowFits, CodeFits}
+use Rattle.fx_code.specs.Laws.{ExactWords}
+use Rattle.fx_code.specs.Run.{word_step}
+
+-- a place below n is filled by its own step
+pub fill_at : (f : ℕ → (ℕ → ℤ) → ℤ) (n i : ℕ) → i < n → fill f n i ≡ f i (fill f i)
+fill_at f zero i h = absurd (omega arith)
+fill_at f (suc n) i h =
+    elim (cases_lt i n) [
+      | inl below ↦ grind (arith, nat_tests, fill_at f n i below)
+      | inr at ↦ let same : i ≡ n = omega arith in rw same (grind (arith, nat_tests))
+    ]
+
+pub exact_words : (p : Code) → CodeFits p → ExactWords p
+exact_words p fits u k i h exact =
+    let row : RowFits p.accumulator (row_at p i) = fits.rows i _ h in
+    fill_at (λ j now. word_step p u k j now (last (length p.rows) (word_step p u) k)) (length p.rows) i h
+    ∙ ap (λ z. wrap (row_at p i).width (floor_div z (2 ^ (row_at p i).shift))) exact.sum
+    ∙ wrap_fits (row_at p i).width _ (omega arith) exact.store

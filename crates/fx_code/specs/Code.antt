@@ -1,0 +1,42 @@
+-- Programs of integer code, as contracts see them.
+use Rattle.std.specs.Prelude.{ℕ, zero, suc, ◌^◌, ◌<◌, ℤ, pos, ◌*ℤ◌, List, [], length, slice_index_or, All, ⊤}
+use Rattle.fx_code.specs.declared.term.CodeTerm.{CodeTerm}
+use Rattle.fx_code.specs.declared.term.Read.{Read}
+use Rattle.fx_code.specs.declared.term.Read.TheVariants.{Now, Old, In}
+
+-- a row: the bits of its stored word, the right shift of its sum, and its terms in their order
+pub record Row : Type 0 where
+  pub width : ℕ
+  pub shift : ℕ
+  pub terms : List CodeTerm
+
+-- a program: the bits of its accumulators, the bits of each input, its rows in order, and the row of each output
+pub record Code : Type 0 where
+  pub accumulator : ℕ
+  pub inputs : List ℕ
+  pub rows : List Row
+  pub outputs : List ℕ
+
+-- the row at a place; past the rows one without terms
+abbrev pub row_at : Code → ℕ → Row
+row_at p i = slice_index_or p.rows i (record { width = 0; shift = 0; terms = [] })
+
+-- what a row's accumulator begins with: half of the last place that the shift drops
+abbrev pub constant_of : ℕ → ℕ
+constant_of zero = 0
+constant_of (suc r) = 2 ^ r
+
+-- a coefficient shifted to the left
+abbrev pub weight : CodeTerm → ℤ
+weight t = t.coef *ℤ pos (2 ^ t.left)
+
+-- a row of the moment before that is read is there
+abbrev pub OldIsThere : ℕ → Read → Type 0
+OldIsThere rows (Old i) = i < rows
+OldIsThere rows (Now i) = ⊤
+OldIsThere rows (In j) = ⊤
+
+-- all rows that are read are there, and there is an output
+pub record IsWhole (p : Code) : Type 0 where
+  pub reads : All (λ (row : Row). All (λ (t : CodeTerm). OldIsThere (length p.rows) t.from) row.terms) p.rows
+  pub output : 0 < length p.outputs

@@ -1,0 +1,269 @@
+ghost use Rattle.std.specs.Prelude.{◌≡◌, ◌<◌, ◌≤◌, ◌^◌, ◌≤ℤ◌, ◌++◌, [], ◌∷◌, length, IfOk, OnOk, OnErr, pos, slice_index, All};
+ghost use Rattle.fx_code.specs.Code.{Row, Code, row_at, constant_of};
+ghost use Rattle.fx_code.specs.Fits.{TermFits, RowFits, WidthFits, CodeFits};
+ghost use Rattle.fx_code.specs.Laws.{ExactWords};
+ghost use Rattle.fx_code.specs.Limits.{start_fault, row_fault, output_fault, fault_told};
+
+use crate::checks::{start_fault, terms_fault};
+use crate::fault::{LimitOf, ProgramFault};
+use crate::term::CodeTerm;
+use std::alloc::Global;
+use std::marker::Model;
+
+#[derive(Drop)]
+struct ProgramRow {
+    width: u8,
+    shift: u8,
+    terms: Vec<CodeTerm>,
+}
+
+/// Rows of integer code. Each program keeps the limits from its start on.
+#[derive(Drop)]
+pub struct Program {
+    alloc: Global,
+    accumulator: u8,
+    inputs: Vec<u8>,
+    rows: Vec<ProgramRow>,
+    outputs: Vec<u8>,
+    // Terms over all rows.
+    terms: usize,
+}
+
+impl Model for Program {
+    ghost use Rattle.fx_code.specs.Code.{Code};
+
+    ghost Value = { Code };
+
+    ghost use Rattle.fx_code.specs.Inside.{code_of, IsKept};
+
+    ghost view = { code_of };
+
+    ghost invariant = { IsKept };
+}
+
+impl Program {
+    ghost use Rattle.fx_code.specs.Inside.{row_of};
+
+    /// A program without rows, over accumulators of 16, 32 or 64 bits, with 1 to 4 inputs of 2 to 32 bits.
+    /// Its error is the first fault, and `NoMemory` only where there is none.
+    pub fn start(
+        alloc: Global,
+        accumulator: u8,
+        input_widths: &[u8],
+    ) -> Result<Program, ProgramFault>
+        ensures ok { IfOk result (λ p. p ≡ record { accumulator = accumulator; inputs = input_widths.now; rows = []; outputs = [] }) }
+        ensures fault { start_fault accumulator input_widths.now ≡ fault_told result }
+    {
+        if let Some(fault) = start_fault(accumulator, input_widths) {
+            return Err(fault);
+        }
+        let Ok(inputs) = input_widths.to_vec(alloc) else {
+            return Err(ProgramFault::NoMemory);
+        };
+        Ok(Program {
+            alloc,
+            accumulator,
+            inputs,
+            rows: Vec::new(alloc),
+            outputs: Vec::new(alloc),
+            terms: 0,
+        })
+    }
+
+    // The first fault of a row that is to be added.
+    fn row_fault(&self, width: u8, shift: u8, terms: &[CodeTerm]) -> Option<ProgramFault>
+        ensures { result ≡ row_fault self.now (record { width = width; shift = shift; terms = terms.now }) }
+    {
+        if self.rows.len() >= 40 {
+            return Some(ProgramFault::Limit(LimitOf::Rows, self.rows.len() as i128 + 1));
+        }
+        if width < 2 || width > self.accumulator.min(32) {
+            return Some(ProgramFault::Limit(LimitOf::Width, i128::from(width)));
+        }
+        if shift > (self.accumulator - 1).min(62) {
+            return Some(ProgramFault::Limit(LimitOf::Shift, i128::from(shift)));
+        }
+        if let Some(fault) = terms_fault(self.rows.len() as u8, self.inputs.len(), shift, terms) {
+            return Some(fault);
+        }
+        let count = self.terms as i128 + terms.len() as i128;
+        if count > 624 {
+            return Some(ProgramFault::Limit(LimitOf::Terms, count));
+        }
+        None
+    }
+
+    /// Adds a row behind the others. Its error is the first fault, and `NoMemory` only where there is none;
+    /// a refused row leaves the program unchanged.
+    pub fn add_row(&mut self, width: u8, shift: u8, terms: &[CodeTerm]) -> Result<(), ProgramFault>
+        ensures ok { OnOk result (self.new ≡ record self.old { rows = self.old.rows ++ record { width = width; shift = shift; terms = terms.now } ∷ [] }) }
+        ensures fault { row_fault self.old (record { width = width; shift = shift; terms = terms.now }) ≡ fault_told result }
+        ensures err { OnErr result (self.new ≡ self.old) }
+    {
+        if let Some(fault) = self.row_fault(width, shift, terms) {
+            return Err(fault);
+        }
+        let count = terms.len();
+        let Ok(terms) = terms.to_vec(self.alloc) else {
+            return Err(ProgramFault::NoMemory);
+        };
+        let row = ProgramRow {
+            width,
+            shift,
+            terms,
+        };
+        match self.rows.push(row) {
+            Ok(()) => {
+                self.terms += count;
+                Ok(())
+            }
+            Err(_) => Err(ProgramFault::NoMemory),
+        }
+    }
+
+    // The first fault of an output that is to be added.
+    fn output_fault(&self, row: u8) -> Option<ProgramFault>
+        ensures { result ≡ output_fault self.now row }
+    {
+        if self.outputs.len() >= 4 {
+            return Some(ProgramFault::Limit(LimitOf::Outputs, self.outputs.len() as i128 + 1));
+        }
+        if usize::from(row) >= self.rows.len() {
+            return Some(ProgramFault::Limit(LimitOf::OutputRow, i128::from(row)));
+        }
+        None
+    }
+
+    /// Puts out the word of a row, behind the other outputs. Its error is the first fault, and `NoMemory` only
+    /// where there is none; a refused output leaves the program unchanged.
+    pub fn add_output(&mut self, row: u8) -> Result<(), ProgramFault>
+        ensures ok { OnOk result (self.new ≡ record self.old { outputs = self.old.outputs ++ row ∷ [] }) }
+        ensures fault { output_fault self.old row ≡ fault_told result }
+        ensures err { OnErr result (self.new ≡ self.old) }
+    {
+        if let Some(fault) = self.output_fault(row) {
+            return Err(fault);
+        }
+        match self.outputs.push(row) {
+            Ok(()) => Ok(()),
+            Err(_) => Err(ProgramFault::NoMemory),
+        }
+    }
+
+    /// The bits of the accumulators: 16, 32 or 64.
+    pub fn accumulator(&self) -> u8
+        ensures value { result ≡ self.now.accumulator }
+        ensures low { 16 ≤ result }
+        ensures high { result ≤ 64 }
+    {
+        self.accumulator
+    }
+
+    /// How many inputs there are: 1 to 4.
+    pub fn inputs(&self) -> usize
+        ensures value { result ≡ length self.now.inputs }
+        ensures low { 1 ≤ result }
+        ensures high { result ≤ 4 }
+    {
+        self.inputs.len()
+    }
+
+    /// The bits of input j: 2 to 32.
+    pub fn input_width(&self, j: usize) -> u8
+        requires { j < length self.now.inputs }
+        ensures value { result ≡ slice_index self.now.inputs j }
+        ensures fits { WidthFits result }
+    {
+        self.inputs[j]
+    }
+
+    /// How many rows there are: at most 40.
+    pub fn rows(&self) -> usize
+        ensures value { result ≡ length self.now.rows }
+        ensures high { result ≤ 40 }
+    {
+        self.rows.len()
+    }
+
+    // Row i.
+    fn row(&self, i: usize) -> &ProgramRow
+        requires { i < length self.now.rows }
+        ensures value { row_of result.now ≡ row_at self.now i }
+        ensures fits { RowFits self.now.accumulator (row_of result.now) }
+        ensures few { length (row_of result.now).terms ≤ 624 }
+    {
+        &self.rows[i]
+    }
+
+    /// The bits of row i's word: 2 to 32, and at most those of the accumulators.
+    pub fn width(&self, i: usize) -> u8
+        requires { i < length self.now.rows }
+        ensures value { result ≡ (row_at self.now i).width }
+        ensures fits { WidthFits result }
+        ensures kept { result ≤ self.now.accumulator }
+    {
+        self.row(i).width
+    }
+
+    /// Row i's right shift: at most 62, and below the bits of the accumulators.
+    pub fn shift(&self, i: usize) -> u8
+        requires { i < length self.now.rows }
+        ensures value { result ≡ (row_at self.now i).shift }
+        ensures high { result ≤ 62 }
+        ensures kept { result < self.now.accumulator }
+    {
+        self.row(i).shift
+    }
+
+    /// What row i's accumulator begins with: half of the last place that the shift drops.
+    pub fn constant(&self, i: usize) -> i64
+        requires { i < length self.now.rows }
+        ensures value { result ≡ pos (constant_of (row_at self.now i).shift) }
+        ensures high { result ≤ℤ pos (2 ^ 61) }
+    {
+        match self.row(i).shift {
+            0 => 0,
+            shift => power_of_two(shift - 1),
+        }
+    }
+
+    /// The terms of row i, in their order.
+    pub fn terms(&self, i: usize) -> &[CodeTerm]
+        requires { i < length self.now.rows }
+        ensures value { result.now ≡ (row_at self.now i).terms }
+        ensures high { length result.now ≤ 624 }
+        ensures fits { All (TermFits (row_at self.now i).shift) result.now }
+    {
+        &self.row(i).terms
+    }
+
+    /// The rows that are put out, in the order of the outputs: at most 4, each below the count of rows.
+    pub fn outputs(&self) -> &[u8]
+        ensures value { result.now ≡ self.now.outputs }
+        ensures high { length result.now ≤ 4 }
+        ensures fits { All (λ row. row < length self.now.rows) result.now }
+    {
+        &self.outputs
+    }
+}
+
+fn power_of_two(k: u8) -> i64
+    requires { k ≤ 62 }
+    ensures { result ≡ pos (2 ^ k) }
+{
+    1i64 << k
+}
+
+/// A law with nothing to run: each program keeps the limits.
+pub fn programs_fit(program: &Program)
+    ensures { CodeFits program.now }
+{
+    let _ = &program.accumulator;
+}
+
+/// A law with nothing to run: the word of an exact row is its whole-number sum, floored by the shift.
+pub fn exact_words_are_floored_sums(program: &Program)
+    ensures { ExactWords program.now }
+{
+    programs_fit(program);
+}

@@ -1,0 +1,18 @@
+/// Where a term reads.
+#[derive(Clone, Copy, Debug, PartialEq, Eq)]
+pub enum Read {
+    /// The word of a row, of this moment.
+    Now(u8),
+    /// The word of a row, of the moment before; 0 at the first.
+    Old(u8),
+    /// The word of an input.
+    In(u8),
+}
+
+/// A coefficient times a word, shifted to the left.
+#[derive(Clone, Copy, Debug, PartialEq, Eq)]
+pub struct CodeTerm {
+    pub coef: i64,
+    pub from: Read,
+    pub left: u8,
+}

@@ -1,0 +1,206 @@
+// Contents in memory, with calls that are to fail.
+ghost use Rattle.std.specs.Prelude.{◌≡◌, ◌++◌, ◌↔◌, [], min, Some, true, IfOk, IfErr, OnOk, OnErr, IsErr, IsErrOf, IsOkAnd, IsSomeAnd, IsTrue, length, drop};
+ghost use Rattle.std.specs.FinMap as map;
+ghost use Rattle.fx_io.specs.declared.shelf.IoFault.TheVariants.{Failed};
+ghost use Rattle.fx_io.specs.Shelf.{ReadsPiece};
+ghost use Rattle.fx_io.specs.Memory.{no_calls, with_failing, next_fails, counted, fault_count, read_fails, after_read, read_fault_count, calls_made};
+
+use crate::call_plan::CallPlan;
+use crate::file_list::{FileList, copy_piece};
+use crate::shelf::{IoFault, Shelf, Sink};
+use std::alloc::{AllocError, Global};
+use std::marker::Model;
+
+/// Files in memory. Every name may be read. The calls that were listed fail, and so does each read
+/// of a name that is not there; all others are done.
+#[derive(Drop)]
+pub struct MemShelf {
+    files: FileList,
+    reads: CallPlan,
+    places: CallPlan,
+    absences: u64,
+}
+
+impl Model for MemShelf {
+    ghost use Rattle.fx_io.specs.Memory.{ShelfState, shelf_code};
+
+    ghost Value = { ShelfState };
+
+    ghost coded = { shelf_code };
+
+    ghost view = { λ s. record { files = s.files; reads = s.reads; places = s.places; absences = s.absences } };
+}
+
+impl MemShelf {
+    /// A shelf without files, on which no call fails.
+    ///
+    /// # Errors
+    ///
+    /// None: a shelf without files takes no memory.
+    pub fn new(alloc: Global) -> Result<MemShelf, AllocError>
+        ensures { IsOkAnd result (λ s. s ≡ record { files = map.empty; reads = no_calls; places = no_calls; absences = 0 }) }
+    {
+        Ok(MemShelf {
+            files: FileList::new(alloc),
+            reads: CallPlan::new(alloc),
+            places: CallPlan::new(alloc),
+            absences: 0,
+        })
+    }
+
+    /// Adds a file, or replaces the one of this name.
+    ///
+    /// # Errors
+    ///
+    /// Want of memory, which leaves the shelf as it was.
+    pub fn add(&mut self, name: &str, bytes: &[u8]) -> Result<(), AllocError>
+        ensures ok { OnOk result (self.new ≡ record self.old { files = map.insert self.old.files name.now bytes.now }) }
+        ensures err { OnErr result (self.new ≡ self.old) }
+    {
+        self.files.insert(name, bytes)
+    }
+
+    /// Lets the read of this number fail. Reads are counted from 1.
+    ///
+    /// # Errors
+    ///
+    /// Want of memory, which leaves the shelf as it was.
+    pub fn fail_read(&mut self, call: u64) -> Result<(), AllocError>
+        ensures ok { OnOk result (self.new ≡ record self.old { reads = with_failing self.old.reads call }) }
+        ensures err { OnErr result (self.new ≡ self.old) }
+    {
+        self.reads.fail(call)
+    }
+
+    /// Lets the placing of this number fail. Placings are counted from 1.
+    ///
+    /// # Errors
+    ///
+    /// Want of memory, which leaves the shelf as it was.
+    pub fn fail_place(&mut self, call: u64) -> Result<(), AllocError>
+        ensures ok { OnOk result (self.new ≡ record self.old { places = with_failing self.old.places call }) }
+        ensures err { OnErr result (self.new ≡ self.old) }
+    {
+        self.places.fail(call)
+    }
+}
+
+impl Shelf for MemShelf {
+    ghost files = { λ s. Some s.files };
+
+    ghost read_faults = { read_fault_count };
+
+    ghost place_faults = { λ s. fault_count s.places };
+
+    ghost calls = { calls_made };
+
+    ghost readable = { λ _ _. true };
+
+    fn read_at(&mut self, name: &str, from: u64, into: &mut [u8]) -> Result<usize, IoFault>
+        ensures fails { IsErr result ↔ IsTrue (read_fails self.old name.now) }
+        ensures fault { IfErr result (λ e. e ≡ Failed) }
+        ensures after { self.new ≡ after_read self.old name.now }
+        // As many bytes as there are and as fit.
+        ensures count { IfOk result (λ n. IsSomeAnd (map.get self.old.files name.now)
+            (λ content. n ≡ min (length (drop from content)) (length into.new))) }
+        ensures bytes { IfOk result (λ n. ReadsPiece (Some self.old.files) name.now from into.new n) }
+    {
+        if self.reads.next() {
+            return Err(IoFault::Failed);
+        }
+        match self.files.get(name) {
+            Some(content) => Ok(copy_piece(content, from, into)),
+            None => {
+                self.absences = self.absences.saturating_add(1);
+                Err(IoFault::Failed)
+            }
+        }
+    }
+
+    fn place(&mut self, name: &str, bytes: &[u8]) -> Result<(), IoFault>
+        ensures fails { IsErrOf result Failed ↔ IsTrue (next_fails self.old.places) }
+        ensures done { OnOk result (self.new ≡ record self.old {
+          files = map.insert self.old.files name.now bytes.now;
+          places = counted self.old.places;
+        }) }
+        ensures refused { OnErr result (self.new ≡ record self.old { places = counted self.old.places }) }
+    {
+        if self.places.next() {
+            return Err(IoFault::Failed);
+        }
+        self.add(name, bytes).map_err(|_| IoFault::NoMemory)
+    }
+}
+
+/// Bytes in memory. The calls that were listed fail; all others are done.
+#[derive(Drop)]
+pub struct MemSink {
+    bytes: Vec<u8>,
+    puts: CallPlan,
+}
+
+impl Model for MemSink {
+    ghost use Rattle.fx_io.specs.Memory.{SinkState, sink_code};
+
+    ghost Value = { SinkState };
+
+    ghost coded = { sink_code };
+
+    ghost view = { λ s. record { bytes = s.bytes.items; puts = s.puts } };
+}
+
+impl MemSink {
+    /// A sink that holds nothing, on which no call fails.
+    ///
+    /// # Errors
+    ///
+    /// None: a sink that holds nothing takes no memory.
+    pub fn new(alloc: Global) -> Result<MemSink, AllocError>
+        ensures { IsOkAnd result (λ s. s ≡ record { bytes = []; puts = no_calls }) }
+    {
+        Ok(MemSink {
+            bytes: Vec::new(alloc),
+            puts: CallPlan::new(alloc),
+        })
+    }
+
+    /// Lets the write of this number fail. Writes are counted from 1.
+    ///
+    /// # Errors
+    ///
+    /// Want of memory, which leaves the sink as it was.
+    pub fn fail_put(&mut self, call: u64) -> Result<(), AllocError>
+        ensures ok { OnOk result (self.new ≡ record self.old { puts = with_failing self.old.puts call }) }
+        ensures err { OnErr result (self.new ≡ self.old) }
+    {
+        self.puts.fail(call)
+    }
+
+    /// What was put.
+    pub fn bytes(&self) -> &[u8]
+        ensures { result.now ≡ self.now.bytes }
+    {
+        &self.bytes
+    }
+}
+
+impl Sink for MemSink {
+    ghost told = { λ s. Some s.bytes };
+
+    ghost faults = { λ s. fault_count s.puts };
+
+    fn put(&mut self, bytes: &[u8]) -> Result<usize, IoFault>
+        ensures fails { IsErrOf result Failed ↔ IsTrue (next_fails self.old.puts) }
+        ensures done { IfOk result (λ n. (n ≡ length bytes.now)
+            × (self.new ≡ record { bytes = self.old.bytes ++ bytes.now; puts = counted self.old.puts })) }
+        ensures refused { OnErr result (self.new ≡ record self.old { puts = counted self.old.puts }) }
+    {
+        if self.puts.next() {
+            return Err(IoFault::Failed);
+        }
+        match self.bytes.extend_from_slice(bytes) {
+            Ok(()) => Ok(bytes.len()),
+            Err(_) => Err(IoFault::NoMemory),
+        }
+    }
+}

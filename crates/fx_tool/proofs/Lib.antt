@@ -1,0 +1,12 @@
+pub mod Answering
+pub mod ClaimLaws
+pub mod ConstantSound
+pub mod Deciding
+pub mod FirstLaws
+pub mod Gains
+pub mod Headline
+pub mod ReadSoFar
+pub mod TextLaws
+pub mod Texts
+pub mod Weights
+pub mod WrittenSoFar

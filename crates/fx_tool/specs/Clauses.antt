@@ -1,0 +1,64 @@
+-- What a run promises.
+use Rattle.std.specs.Prelude.{◌≡◌, ◌⊎◌, ℕ, ◌+◌, List, [], ◌∷◌, Option, Some, None, IsSomeAnd, ⊤}
+use Rattle.std.specs.FinMap.{get, insert}
+use Rattle.fx_io.specs.Shelf.{Files}
+use Rattle.fx_code.specs.Code.{Code}
+use Rattle.fx_tool.specs.Command.{Operands, operands_of}
+use Rattle.fx_tool.specs.Certificate.{Certificate, IsCertificateText}
+use Rattle.fx_tool.specs.ConstantFilter.{IsFilterText}
+use Rattle.fx_tool.specs.ConstantCode.{IsCodeText}
+use Rattle.fx_tool.specs.Filter.{Filter}
+use Rattle.fx_tool.specs.Sound.{IsSound}
+use Rattle.fx_tool.specs.Printed.{accepted_text}
+use Rattle.fx_tool.specs.Answer.{Answer, answer_of}
+use Rattle.fx_tool.specs.Reading.{read_calls}
+use Rattle.fx_tool.specs.Writing.{GrowsBy, GrowsByPrefix}
+use Rattle.fx_tool.specs.declared.status.Status.{Status}
+use Rattle.fx_tool.specs.declared.status.Status.TheVariants.{Done, ReadFault, WriteFault, NoMemory}
+
+-- where the shelf tells its files
+abbrev pub WhereTold : Option Files → (Files → Type 0) → Type 0
+WhereTold None P = ⊤
+WhereTold (Some files) P = P files
+
+-- The status is the answer's, or a read, a write or memory failed. With the answer's status its whole text was put, after a
+-- failed read nothing, and else the first bytes of the text.
+pub record Gives (answer : Answer) (status : Status) (before after : Option (List ℕ)) : Type 0 where
+  pub which : (status ≡ answer.status) ⊎ ((status ≡ ReadFault) ⊎ ((status ≡ WriteFault) ⊎ (status ≡ NoMemory)))
+  pub whole : status ≡ answer.status → GrowsBy answer.text before after
+  pub prefix : GrowsByPrefix answer.text before after
+
+-- the files with what was placed
+abbrev pub with_placed : List (List ℕ × List ℕ) → Files → Files
+with_placed [] files = files
+with_placed (p ∷ ps) files = with_placed ps (insert files p.0 p.1)
+
+-- with the answer's status the files are the old ones with those that it places
+abbrev pub PlacesAnswer : List (List ℕ) → Option Files → Option Files → Status → Type 0
+PlacesAnswer words before after status =
+    WhereTold before (λ files. status ≡ (answer_of words files).status → after ≡ Some (with_placed (answer_of words files).placed files))
+
+-- the most calls on the shelf: those of the reads of the operands, and none where the words are no command
+abbrev pub check_calls : Option Files → Operands → ℕ
+check_calls told o = read_calls 4096 told o.filter + (read_calls 4096 told o.code + read_calls 4096 told o.cert)
+
+abbrev pub command_calls : Option Files → Option Operands → ℕ
+command_calls told None = 0
+command_calls told (Some o) = check_calls told o
+
+-- The three files read as a filter, a program and a certificate; for every list of input words within the filter's bounds, of
+-- any length, each row of the program ends with the exact sum in its accumulator, each stored word lies in its format, and
+-- each output differs from the filter's exact output by at most the certificate's error, which is the one that was printed.
+pub record Headline (files : Files) (o : Operands) (before after : Option (List ℕ)) : Type 0 where
+  pub filter : Filter
+  pub program : Code
+  pub certificate : Certificate
+  pub filter_text : IsSomeAnd (get files o.filter) (λ bytes. IsFilterText bytes filter)
+  pub code_text : IsSomeAnd (get files o.code) (λ bytes. IsCodeText bytes program)
+  pub certificate_text : IsSomeAnd (get files o.cert) (λ bytes. IsCertificateText bytes certificate)
+  pub sound : IsSound filter program certificate.errors
+  pub printed : GrowsBy (accepted_text certificate.errors) before after
+
+-- what status 0 claims
+abbrev pub DoneClaims : List (List ℕ) → Option Files → Option (List ℕ) → Option (List ℕ) → Type 0
+DoneClaims words told before after = WhereTold told (λ files. IsSomeAnd (operands_of words) (λ o. Headline files o before after))

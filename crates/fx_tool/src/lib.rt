@@ -1,0 +1,33 @@
+//! The commands: from the words of a command line and the files that they name to a status and a text.
+#![tactic(auto)]
+
+ghost use Rattle.fx_tool.specs.ConstantLaw.{ConstantLaw};
+
+mod certificate;
+mod command;
+mod constant;
+mod decide;
+mod first_files;
+mod inequality;
+mod judge;
+mod outcome;
+mod reading;
+mod report;
+mod status;
+mod text;
+mod words;
+mod writing;
+
+pub use certificate::{Claim, certificate_is_read_exactly, read_certificate};
+pub use command::run;
+pub use constant::ConstantFilter;
+pub use inequality::{Inequality, Refusal};
+pub use status::Status;
+
+/// Where the inequalities hold, the program does what the filter asks for, on all admissible inputs and for all time.
+pub fn inequalities_make_sound()
+    ensures { ConstantLaw }
+{}
+
+#[cfg(test)]
+mod tests;

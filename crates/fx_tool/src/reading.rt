@@ -1,0 +1,110 @@
+ghost use Rattle.std.specs.Prelude.{◌≡◌, ◌<◌, ◌≤◌, ◌+◌, ◌^◌, IsTrue, IfOk, OnOk, min, take, length};
+ghost use Rattle.std.specs.Bool.{IsFalse};
+ghost use Rattle.fx_io.specs.Causes.{HasCause, CountsCall};
+ghost use Rattle.fx_io.specs.Shelf.{KeepsNames};
+ghost use Rattle.std.specs.Option.{option_map};
+ghost use Rattle.fx_tool.specs.Reading.{Has, SoFar, HoldsContent, read_calls};
+
+use fx_io::{IoFault, Shelf};
+use std::alloc::{AllocError, Global};
+
+/// The most bytes that a file may have.
+pub const LIMIT: usize = 4096;
+
+// The most bytes that one read asks for.
+const PIECE: usize = 65_536;
+
+// Reads one piece behind the bytes that were read, up to one byte past the limit, and says whether there may be another.
+fn read_piece<S: Shelf>(
+    shelf: &mut S,
+    name: &str,
+    limit: usize,
+    piece: &mut [u8],
+    bytes: &mut Vec<u8>,
+) -> Result<bool, IoFault>
+    requires readable { IsTrue (S.readable shelf.old name.now) }
+    requires limit { limit < 2 ^ 32 }
+    requires room { length bytes.old.items ≤ limit }
+    requires some { 0 < length piece.old }
+
+    ensures more { SoFar (S.files shelf.old) name.now bytes.old.items → OnOk result (SoFar (S.files shelf.old) name.now bytes.new.items) }
+    ensures end { SoFar (S.files shelf.old) name.now bytes.old.items → IfOk result (λ more. IsFalse more → Has (S.files shelf.old) name.now (λ content. bytes.new.items ≡ take (limit + 1) content)) }
+    ensures longer { IfOk result (λ more. IsTrue more → length bytes.old.items < length bytes.new.items) }
+    ensures no_shorter { length bytes.old.items ≤ length bytes.new.items }
+    ensures within { length bytes.new.items ≤ limit + 1 }
+
+    ensures files { S.files shelf.new ≡ S.files shelf.old }
+    ensures cause { HasCause (S.read_faults shelf.old) (S.read_faults shelf.new) result }
+    ensures place_faults { S.place_faults shelf.new ≡ S.place_faults shelf.old }
+    ensures calls { CountsCall (S.calls shelf.old) (S.calls shelf.new) }
+    ensures readable { KeepsNames (S.readable shelf.old) (S.readable shelf.new) }
+{
+    let room = (limit + 1 - bytes.len()).min(piece.len());
+    let count = shelf.read_at(name, bytes.len() as u64, &mut piece[..room])?;
+    if count == 0 {
+        return Ok(false);
+    }
+    match bytes.extend_from_slice(&piece[..count]) {
+        Ok(()) => Ok(true),
+        Err(AllocError) => Err(IoFault::NoMemory),
+    }
+}
+
+// Reads a file, up to one byte past the limit.
+fn read_up_to<S: Shelf>(
+    alloc: Global,
+    shelf: &mut S,
+    name: &str,
+    limit: usize,
+) -> Result<Vec<u8>, IoFault>
+    requires readable { IsTrue (S.readable shelf.old name.now) }
+    requires limit { limit < 2 ^ 32 }
+
+    ensures content { IfOk result (λ bytes. Has (S.files shelf.old) name.now (λ content. bytes.items ≡ take (limit + 1) content)) }
+    ensures within { IfOk result (λ bytes. length bytes.items ≤ limit + 1) }
+    ensures files { S.files shelf.new ≡ S.files shelf.old }
+
+    ensures cause { HasCause (S.read_faults shelf.old) (S.read_faults shelf.new) result }
+    ensures place_faults { S.place_faults shelf.new ≡ S.place_faults shelf.old }
+    ensures later { S.calls shelf.old ≤ S.calls shelf.new }
+    ensures calls { S.calls shelf.new ≤ S.calls shelf.old + read_calls limit (S.files shelf.old) name.now }
+    ensures readable { KeepsNames (S.readable shelf.old) (S.readable shelf.new) }
+{
+    let Ok(mut piece) = vec![in alloc; 0; PIECE.min(limit + 1)] else {
+        return Err(IoFault::NoMemory);
+    };
+    let mut bytes = Vec::new(alloc);
+    'pieces: while bytes.len() <= limit {
+        if !read_piece(shelf, name, limit, &mut piece, &mut bytes)? {
+            return Ok(bytes);
+        }
+    }
+    Ok(bytes)
+}
+
+/// Reads a file whole, where it is no longer than the limit.
+///
+/// # Errors
+///
+/// `Failed` only where the shelf's count of read faults rose.
+pub fn read_file<S: Shelf>(
+    alloc: Global,
+    shelf: &mut S,
+    name: &str,
+    limit: usize,
+) -> Result<Option<Vec<u8>>, IoFault>
+    requires readable { IsTrue (S.readable shelf.old name.now) }
+    requires limit { limit < 2 ^ 32 }
+
+    ensures content { IfOk result (λ r. Has (S.files shelf.old) name.now (HoldsContent limit (option_map (λ bytes. bytes.items) r))) }
+    ensures files { S.files shelf.new ≡ S.files shelf.old }
+
+    ensures cause { HasCause (S.read_faults shelf.old) (S.read_faults shelf.new) result }
+    ensures place_faults { S.place_faults shelf.new ≡ S.place_faults shelf.old }
+    ensures later { S.calls shelf.old ≤ S.calls shelf.new }
+    ensures calls { S.calls shelf.new ≤ S.calls shelf.old + read_calls limit (S.files shelf.old) name.now }
+    ensures readable { KeepsNames (S.readable shelf.old) (S.readable shelf.new) }
+{
+    let bytes = read_up_to(alloc, shelf, name, limit)?;
+    Ok(if bytes.len() <= limit { Some(bytes) } else { None })
+}

@@ -1,0 +1,44 @@
+ghost use Rattle.std.specs.Prelude.{◌≡◌};
+ghost use Rattle.fx_tool.specs.Status.{number_of};
+
+/// How a run ends.
+#[derive(Clone, Copy, Debug, PartialEq, Eq)]
+pub enum Status {
+    /// The command's work is done.
+    Done,
+    /// The three files read, and an inequality fails.
+    Refused,
+    /// The words are no command.
+    Usage,
+    /// The filter's bytes are refused.
+    BadFilter,
+    /// The code's bytes are refused.
+    BadCode,
+    /// The certificate's bytes are refused.
+    BadCertificate,
+    /// The sample bytes are refused.
+    BadSamples,
+    /// No listed design passes.
+    NoDesign,
+    /// A read failed.
+    ReadFault,
+    /// A write failed.
+    WriteFault,
+    /// A file is longer than its limit.
+    TooLong,
+    /// The structure cannot be had from the form.
+    Unbuildable,
+    /// Memory was refused.
+    NoMemory,
+    /// The words or a file are of a form that is not built yet.
+    NotBuiltYet,
+}
+
+impl Status {
+    /// The number that the program ends with.
+    pub fn number(self) -> u8
+        ensures { result ≡ number_of self }
+    {
+        self as u8
+    }
+}
