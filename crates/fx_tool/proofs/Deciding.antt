@@ -7,13 +7,12 @@ use Rattle.fx_tool.specs.Certificate.{Certificate}
 use Rattle.fx_tool.specs.Claim.{certificate_in}
 use Rattle.fx_tool.specs.Command.{Operands}
 use Rattle.fx_tool.specs.ConstantFilter.{ConstantFilter}
-use Rattle.fx_tool.specs.FirstFiles.{filter_in, code_in}
+use Rattle.fx_tool.specs.CodeReading.{code_in}
+use Rattle.fx_tool.specs.FilterReading.{filter_in}
 use Rattle.fx_tool.specs.Inequalities.{first_refusal}
-use Rattle.fx_tool.specs.Answer.{Answer, says, by_content, with_file, when_built, built, judged, cert_answer, code_answer, check_answer}
+use Rattle.fx_tool.specs.Answer.{Answer, by_content, with_file, when_built, built, judged, cert_answer, code_answer, check_answer}
 use Rattle.fx_tool.specs.Clauses.{WhereTold}
 use Rattle.fx_tool.specs.Reading.{Has}
-use Rattle.fx_tool.specs.declared.inequality.Refusal.{Refusal}
-use Rattle.fx_tool.specs.declared.status.Status.TheVariants.{NotBuiltYet}
 
 -- the same files later
 pub has_now : (before files : Option Files) (name : List ℕ) (P : List ℕ → Type 0) → before ≡ files → Has before name P → Has files name P

@@ -1,5 +1,5 @@
 -- A term's weight over its row's shift is a fraction within its limits.
-use Rattle.std.proofs.Common.{◌≡◌, ℕ, ◌+◌, ◌*◌, ◌^◌, ◌<◌, ◌≤◌, ℤ, unsigned_abs, arith, subst}
+use Rattle.std.proofs.Common.{◌≡◌, ℕ, ◌*◌, ◌^◌, ◌<◌, ◌≤◌, ℤ, unsigned_abs, arith}
 use Rattle.std.proofs.lemmas.Nat.{pow-add}
 use Rattle.fx_nums.specs.Fraction.{FractionFits}
 use Rattle.fx_nums.specs.declared.fraction.Den.TheVariants.{Two}

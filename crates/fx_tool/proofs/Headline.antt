@@ -1,9 +1,6 @@
 -- Status 0 is the answer only where the three files read and all inequalities hold; then the headline follows.
-use Rattle.std.proofs.Common.{◌≡◌, ◌⊎◌, inl, inr, ◌∙◌, ℕ, zero, suc, ◌<◌, ◌==◌, ◌||◌, not, min, Bool, true, false, List, [], ◌∷◌, length, codes, Option, Some, None, IsSomeAnd, refl, sym, ap, subst, arith, lit<, lit≤, nat_le, cond}
+use Rattle.std.proofs.Common.{◌≡◌, inl, inr, ◌∙◌, ℕ, zero, suc, ◌<◌, ◌==◌, ◌||◌, not, min, Bool, true, false, List, length, codes, Option, Some, None, IsSomeAnd, refl, sym, ap, subst, arith, nat_le, cond}
 use Rattle.std.specs.FinMap.{get}
-use Rattle.std.specs.Str.{bytes_eq}
-use Rattle.std.proofs.lemmas.Slice.Eq.{bytes_eq-Decides}
-use Rattle.std.proofs.lemmas.Fmt.{decimal_digit}
 use Rattle.fx_io.specs.Shelf.{Files}
 use Rattle.fx_code.specs.Code.{Code}
 use Rattle.fx_tool.specs.Certificate.{Certificate, IsCertificateText}
@@ -11,10 +8,11 @@ use Rattle.fx_tool.specs.Claim.{certificate_in}
 use Rattle.fx_tool.specs.Command.{Operands, operands_of}
 use Rattle.fx_tool.specs.ConstantFilter.{ConstantFilter, filter_of, IsFilterText}
 use Rattle.fx_tool.specs.ConstantCode.{CodeNumbers, code_of, IsCodeText}
-use Rattle.fx_tool.specs.FirstFiles.{filter_in, code_in}
+use Rattle.fx_tool.specs.CodeReading.{code_in}
+use Rattle.fx_tool.specs.FilterReading.{filter_in}
 use Rattle.fx_tool.specs.Inequalities.{first_refusal}
 use Rattle.fx_tool.specs.Answer.{Answer, by_content, with_file, when_built, built, judged, cert_answer, code_answer, check_answer, command_answer, answer_of}
-use Rattle.fx_tool.specs.Clauses.{WhereTold, Gives, Headline, DoneClaims, with_placed}
+use Rattle.fx_tool.specs.Clauses.{WhereTold, Gives, Headline, DoneClaims}
 use Rattle.fx_tool.specs.Printed.{accepted_text}
 use Rattle.fx_tool.specs.Sound.{IsSound}
 use Rattle.fx_tool.specs.Writing.{GrowsBy}
@@ -27,7 +25,8 @@ use Rattle.fx_tool.specs.Claim.{certificate_with}
 use Rattle.fx_tool.specs.ConstantCode.{CodeNumbersFit}
 use Rattle.fx_tool.proofs.ClaimLaws.{certificate_law, two_items, one_item, with_items}
 use Rattle.fx_tool.proofs.ConstantSound.{sound}
-use Rattle.fx_tool.proofs.FirstLaws.{filter_reads, code_reads}
+use Rattle.fx_tool.proofs.CodeLaws.{code_law}
+use Rattle.fx_tool.proofs.FilterLaws.{filter_law}
 
 -- ---- where the answer is 0, each file is there and read, and nothing is refused
 
@@ -96,6 +95,12 @@ check_done files o h =
       text = ap (λ (a : Answer). a.text) (filter.same ∙ code.same ∙ cert.same) ∙ judged_text (first_refusal filter.x code.x cert.x) cert.x.errors passes;
     }
 
+-- what is read of a file is what its text means
+filter_reads : (bytes : List ℕ) (f : ConstantFilter) → filter_in bytes ≡ Some f → IsFilterText bytes (filter_of f)
+filter_reads bytes f h =
+    let t = (filter_law bytes f).0 h in
+    record { numbers = t.numbers; fit = t.fit; text = t.text; meaning = ap filter_of t.meaning }
+
 -- ---- the numbers of a program are above 0
 
 listed_some : (a : ℕ) (fault : ProgramFault) (rest : Option ProgramFault) → fault_if (not (a == 16 || (a == 32 || a == 64))) fault rest ≡ None → 0 < a
@@ -130,7 +135,7 @@ headline files o before after d grows =
     let f = d.filter.x in
     let p = d.code.x in
     let c = d.cert.x in
-    let code = code_reads d.code.bytes p d.code.read in
+    let code = (code_law d.code.bytes p).0 d.code.read in
     let cert = (certificate_law d.cert.bytes c).0 d.cert.read in
     let passes : first_refusal f (code_of code.numbers) c ≡ None = subst (λ (p : Code). first_refusal f p c ≡ None) code.meaning d.passes in
     let is_sound : IsSound (filter_of f) p c.errors = subst (λ (p : Code). IsSound (filter_of f) p c.errors) (sym code.meaning) (sound_for f code.numbers c code.fit cert.1 cert.2 passes) in

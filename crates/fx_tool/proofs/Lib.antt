@@ -1,10 +1,13 @@
 pub mod Answering
 pub mod ClaimLaws
+pub mod CodeLaws
 pub mod ConstantSound
 pub mod Deciding
-pub mod FirstLaws
+pub mod Digits
+pub mod FilterLaws
 pub mod Gains
 pub mod Headline
+pub mod NumeralLaws
 pub mod ReadSoFar
 pub mod TextLaws
 pub mod Texts

@@ -6,7 +6,8 @@ use Rattle.fx_tool.specs.Command.{Operands, operands_of}
 use Rattle.fx_code.specs.Code.{Code}
 use Rattle.fx_tool.specs.ConstantFilter.{ConstantFilter}
 use Rattle.fx_tool.specs.Claim.{certificate_in}
-use Rattle.fx_tool.specs.FirstFiles.{filter_in, code_in}
+use Rattle.fx_tool.specs.CodeReading.{code_in}
+use Rattle.fx_tool.specs.FilterReading.{filter_in}
 use Rattle.fx_tool.specs.Inequalities.{first_refusal}
 use Rattle.fx_tool.specs.Printed.{accepted_text, refused_text}
 use Rattle.fx_tool.specs.declared.inequality.Refusal.{Refusal}

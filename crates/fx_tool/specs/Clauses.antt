@@ -14,7 +14,7 @@ use Rattle.fx_tool.specs.Answer.{Answer, answer_of}
 use Rattle.fx_tool.specs.Reading.{read_calls}
 use Rattle.fx_tool.specs.Writing.{GrowsBy, GrowsByPrefix}
 use Rattle.fx_tool.specs.declared.status.Status.{Status}
-use Rattle.fx_tool.specs.declared.status.Status.TheVariants.{Done, ReadFault, WriteFault, NoMemory}
+use Rattle.fx_tool.specs.declared.status.Status.TheVariants.{ReadFault, WriteFault, NoMemory}
 
 -- where the shelf tells its files
 abbrev pub WhereTold : Option Files → (Files → Type 0) → Type 0

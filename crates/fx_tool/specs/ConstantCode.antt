@@ -1,26 +1,18 @@
 -- Programs of one row with one term: the text of their file, and what it means.
-use Rattle.std.specs.Prelude.{◌≡◌, ◌<◌, ℕ, Bool, List, [], ◌∷◌, ◌++◌, length, codes, None}
+use Rattle.std.specs.Prelude.{◌≡◌, ◌<◌, ℕ, List, [], ◌∷◌, ◌++◌, length, codes, None}
 use Rattle.std.specs.Fmt.{decimal}
 use Rattle.fx_code.specs.Code.{Row, Code, row_at, constant_of}
 use Rattle.fx_code.specs.Limits.{start_fault, row_fault}
 use Rattle.fx_code.specs.declared.term.Read.TheVariants.{In}
 use Rattle.fx_tool.specs.Numeral.{sign_text, signed}
+-- the numbers of such a program; the coefficient has a sign and a magnitude
+pub use Rattle.fx_tool.specs.declared.code_file.CodeNumbers.{CodeNumbers}
 
 -- there is an input, and a row with a term
 pub record HasTerm (p : Code) : Type 0 where
   pub input : 0 < length p.inputs
   pub row : 0 < length p.rows
   pub term : 0 < length (row_at p 0).terms
-
--- the numbers of such a program; the coefficient has a sign and a magnitude
-pub record CodeNumbers : Type 0 where
-  pub accumulator : ℕ
-  pub input_width : ℕ
-  pub negative : Bool
-  pub coefficient : ℕ
-  pub left : ℕ
-  pub shift : ℕ
-  pub width : ℕ
 
 -- the program before its row
 abbrev pub started : CodeNumbers → Code

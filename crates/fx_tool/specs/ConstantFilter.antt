@@ -1,12 +1,12 @@
 -- Filters of one coefficient: the text of their file, and what it means.
-use Rattle.std.specs.Prelude.{◌≡◌, ℕ, ◌-◌, ◌^◌, ◌<◌, ◌≤◌, ◌⊎◌, ◌==◌, nat_eq, Bool, false, if◌then◌else◌, ℤ, pos, ◌*ℤ◌, unsigned_abs, List, [], ◌∷◌, ◌++◌, codes}
+use Rattle.std.specs.Prelude.{◌≡◌, ℕ, ◌-◌, ◌^◌, ◌<◌, ◌≤◌, ◌⊎◌, ◌==◌, false, if◌then◌else◌, ℤ, pos, ◌*ℤ◌, unsigned_abs, List, [], ◌∷◌, ◌++◌, codes}
 use Rattle.std.specs.Fmt.{decimal}
 use Rattle.fx_math.specs.Division.{floor_div}
 use Rattle.fx_nums.specs.Fraction.{Fraction, den_value}
 use Rattle.fx_tool.specs.Numeral.{Numeral, numeral_text, numeral_value, IsPlain}
-use Rattle.fx_tool.specs.Equations.{Source, Term, Equations}
+use Rattle.fx_tool.specs.Equations.{Term}
 use Rattle.fx_tool.specs.Equations.Source.{Input}
-use Rattle.fx_tool.specs.Filter.{InputFormat, OutputFormat, Filter}
+use Rattle.fx_tool.specs.Filter.{Filter}
 pub use Rattle.fx_tool.specs.declared.constant.ConstantFilter.{ConstantFilter}
 
 -- a coefficient 0 makes no term

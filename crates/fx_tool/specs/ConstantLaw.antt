@@ -1,8 +1,7 @@
 -- The law of constant filters: where all inequalities hold, the program is sound for the filter, for all time.
-use Rattle.std.specs.Prelude.{◌≡◌, ℕ, ◌<◌, List, [], ◌∷◌, None}
+use Rattle.std.specs.Prelude.{◌≡◌, ℕ, ◌<◌, [], ◌∷◌, None}
 use Rattle.fx_tool.specs.ConstantFilter.{ConstantFilter, filter_of}
 use Rattle.fx_tool.specs.ConstantCode.{CodeNumbers, code_of}
-use Rattle.fx_tool.specs.Certificate.{Certificate}
 use Rattle.fx_tool.specs.Inequalities.{first_refusal}
 use Rattle.fx_tool.specs.Sound.{IsSound}
 

@@ -1,5 +1,5 @@
 -- Equation systems, and their exact values over a common denominator that grows with each row.
-use Rattle.std.specs.Prelude.{◌≡◌, ℕ, zero, suc, ◌+◌, ◌-◌, ◌*◌, ◌^◌, max, ◌==◌, if◌then◌else◌, ℤ, pos, ◌+ℤ◌, ◌*ℤ◌, List, [], ◌∷◌}
+use Rattle.std.specs.Prelude.{ℕ, zero, suc, ◌+◌, ◌-◌, ◌*◌, ◌^◌, max, ◌==◌, if◌then◌else◌, ℤ, pos, ◌+ℤ◌, ◌*ℤ◌, List, [], ◌∷◌}
 use Rattle.fx_math.specs.Unroll.{fill, lagged}
 use Rattle.fx_nums.specs.Fraction.{Fraction, over}
 use Rattle.fx_nums.specs.declared.fraction.Den.{Den}

@@ -1,9 +1,9 @@
 -- The inequalities that a certificate has to meet, for a filter of one coefficient and a program of one term.
-use Rattle.std.specs.Prelude.{ℕ, zero, suc, ◌+◌, ◌-◌, ◌*◌, ◌^◌, ◌==◌, ◌<◌, nat_lt, nat_le, Bool, true, false, ℤ, pos, List, [], ◌∷◌, length, slice_index, unsigned_abs, Option, Some, None, Result, Ok, Err}
+use Rattle.std.specs.Prelude.{ℕ, zero, suc, ◌+◌, ◌-◌, ◌*◌, ◌^◌, ◌==◌, nat_lt, nat_le, Bool, true, false, ℤ, pos, List, [], ◌∷◌, slice_index, unsigned_abs, Option, Some, None, Result, Ok, Err}
 use Rattle.fx_nums.specs.Fraction.{den_value}
 use Rattle.fx_nums.specs.Interval.{Interval, enclosure, plus, opposite, magnitude}
 use Rattle.fx_code.specs.declared.term.CodeTerm.{CodeTerm}
-use Rattle.fx_code.specs.Code.{Row, Code, row_at, weight}
+use Rattle.fx_code.specs.Code.{Code, row_at, weight}
 use Rattle.fx_tool.specs.ConstantFilter.{ConstantFilter, target_of}
 use Rattle.fx_tool.specs.Certificate.{Certificate}
 use Rattle.fx_tool.specs.declared.inequality.Inequality.{Inequality}
@@ -61,7 +61,7 @@ below which left right = unless (nat_lt left right) which left right
 abbrev pub at_most : Inequality → ℕ → ℕ → Option Refusal → Option Refusal
 at_most which left right = unless (nat_le left right) which left right
 
--- the first inequality that fails, with both sides
+-- The first inequality that fails, with both sides. The wanted error of a filter is at least 0, and so is its target.
 abbrev pub first_refusal : ConstantFilter → Code → Certificate → Option Refusal
 first_refusal f p c =
     let row = row_at p 0 in

@@ -51,12 +51,7 @@ fn tell<K: Sink>(alloc: Global, out: &mut K, outcome: &Outcome) -> Status
 }
 
 // Runs a command line, and gives the answer of its words and files.
-fn answer<S: Shelf, K: Sink>(
-    alloc: Global,
-    words: &[String],
-    shelf: &mut S,
-    out: &mut K,
-) -> Status
+fn answer<S: Shelf, K: Sink>(alloc: Global, words: &[String], shelf: &mut S, out: &mut K) -> Status
     requires { CanRead (S.readable shelf.old) (texts words.now) }
 
     ensures answer { WhereTold (S.files shelf.old) (λ files. Gives (answer_of (texts words.now) files) result (K.told out.old) (K.told out.new)) }
@@ -81,12 +76,7 @@ fn answer<S: Shelf, K: Sink>(
 
 /// Runs a command line: the program's name, a command and its operands. It reads the files that the words name, judges
 /// them and puts a text; what it gives is the answer of the words and the files, unless a read, a write or memory fails.
-pub fn run<S: Shelf, K: Sink>(
-    alloc: Global,
-    words: &[String],
-    shelf: &mut S,
-    out: &mut K,
-) -> Status
+pub fn run<S: Shelf, K: Sink>(alloc: Global, words: &[String], shelf: &mut S, out: &mut K) -> Status
     requires { CanRead (S.readable shelf.old) (texts words.now) }
 
     // For every list of input words within the file's bound, of any length, every row of the code that was read ends with

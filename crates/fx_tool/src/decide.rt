@@ -5,14 +5,16 @@ ghost use Rattle.fx_tool.specs.Answer.{built, check_answer};
 ghost use Rattle.fx_tool.specs.Certificate.{CertificateFits};
 ghost use Rattle.fx_tool.specs.Claim.{certificate_in, certificate_of};
 ghost use Rattle.fx_tool.specs.Clauses.{check_calls, WhereTold};
-ghost use Rattle.fx_tool.specs.FirstFiles.{code_in, filter_in};
+ghost use Rattle.fx_tool.specs.CodeReading.{code_in};
+ghost use Rattle.fx_tool.specs.FilterReading.{filter_in};
 ghost use Rattle.fx_tool.specs.ConstantCode.{HasTerm};
 ghost use Rattle.fx_tool.specs.Outcome.{outcome_answer, OutcomeFits};
 ghost use Rattle.fx_tool.specs.Reading.{Has, read_calls};
 
 use crate::certificate::{Claim, read_certificate};
+use crate::code_file::read_code_file;
 use crate::constant::ConstantFilter;
-use crate::first_files::{code_in, filter_in};
+use crate::filter_file::read_filter_file;
 use crate::judge::judge;
 use crate::outcome::{Outcome, Part};
 use crate::reading::{LIMIT, read_file};
@@ -39,7 +41,7 @@ fn read_filter<S: Shelf>(
     ensures readable { KeepsNames (S.readable shelf.old) (S.readable shelf.new) }
 {
     match read_file(alloc, shelf, name, LIMIT)? {
-        Some(bytes) => Ok(filter_in(&bytes)),
+        Some(bytes) => Ok(read_filter_file(&bytes)),
         None => Ok(None),
     }
 }
@@ -63,7 +65,7 @@ fn read_program<S: Shelf>(
     ensures readable { KeepsNames (S.readable shelf.old) (S.readable shelf.new) }
 {
     match read_file(alloc, shelf, name, LIMIT)? {
-        Some(bytes) => match code_in(alloc, &bytes) {
+        Some(bytes) => match read_code_file(alloc, &bytes) {
             Ok(program) => Ok(program),
             Err(_) => Err(IoFault::NoMemory),
         },
@@ -72,11 +74,7 @@ fn read_program<S: Shelf>(
 }
 
 // The numbers of a certificate's file, where it has the built form.
-fn read_claim<S: Shelf>(
-    alloc: Global,
-    shelf: &mut S,
-    name: &str,
-) -> Result<Option<Claim>, IoFault>
+fn read_claim<S: Shelf>(alloc: Global, shelf: &mut S, name: &str) -> Result<Option<Claim>, IoFault>
     requires { IsTrue (S.readable shelf.old name.now) }
 
     ensures found { IfOk result (λ r. Has (S.files shelf.old) name.now (λ content. option_map certificate_of r ≡ built certificate_in content)) }

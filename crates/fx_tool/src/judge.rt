@@ -150,7 +150,11 @@ pub fn judge(f: &ConstantFilter, p: &Program, claim: &Claim) -> Result<(), Refus
     equal(Inequality::Accumulator, p.accumulator(), f.accumulator)?;
     equal(Inequality::InputWidth(0), p.input_width(0), f.input_width)?;
     equal(Inequality::OutputWidth(0), p.width(0), f.output_width)?;
-    below(Inequality::Sweep(2, 0), size_of(gain_difference(f, p)), 1 << 88)?;
+    below(
+        Inequality::Sweep(2, 0),
+        size_of(gain_difference(f, p)),
+        1 << 88,
+    )?;
     at_most(Inequality::Bound(0), code_total(f, p), code_bound << 64)?;
     at_most(Inequality::Bound(1), filter_total(f), filter_bound << 64)?;
     at_most(Inequality::Word(0), code_bound, greatest_word)?;

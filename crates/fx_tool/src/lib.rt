@@ -4,12 +4,14 @@
 ghost use Rattle.fx_tool.specs.ConstantLaw.{ConstantLaw};
 
 mod certificate;
+mod code_file;
 mod command;
 mod constant;
 mod decide;
-mod first_files;
+mod filter_file;
 mod inequality;
 mod judge;
+mod numeral;
 mod outcome;
 mod reading;
 mod report;
@@ -19,8 +21,10 @@ mod words;
 mod writing;
 
 pub use certificate::{Claim, certificate_is_read_exactly, read_certificate};
+pub use code_file::{code_is_read_exactly, read_code_file};
 pub use command::run;
 pub use constant::ConstantFilter;
+pub use filter_file::{filter_is_read_exactly, read_filter_file};
 pub use inequality::{Inequality, Refusal};
 pub use status::Status;
 

@@ -106,5 +106,9 @@ pub fn read_file<S: Shelf>(
     ensures readable { KeepsNames (S.readable shelf.old) (S.readable shelf.new) }
 {
     let bytes = read_up_to(alloc, shelf, name, limit)?;
-    Ok(if bytes.len() <= limit { Some(bytes) } else { None })
+    Ok(if bytes.len() <= limit {
+        Some(bytes)
+    } else {
+        None
+    })
 }

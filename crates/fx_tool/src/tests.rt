@@ -7,13 +7,24 @@ use fx_io::{MemShelf, MemSink, SureShelf, SureSink};
 use std::alloc::{AllocError, Global};
 use std::test::Fail;
 
-const FILTER: &[u8] = b"form = \"tf\"\nb = [\"0.5\"]\na = [\"1\"]\ninputs = [{ width = 16, bound = 100 }]\noutputs = [{ width = 16, error = \"1\" }]\naccumulator = 32\n";
+const FILTER: &[u8] =
+    b"form = \"tf\"\nb = [\"0.5\"]\na = [\"1\"]\ninputs = [{ width = 16, bound = 100 }]\noutputs = [{ width = 16, error = \"1\" }]\naccumulator = 32\n";
 
-const CODE: &[u8] = b"#include \"fixif.h\"\nSTEP(32, 1, 1, 1)\n{\n  IN(u0, 16);\n  a = 1;\n  a += MUL(1, u0, 0);\n  r0 = LOW(SAR(a, 1), 16);\n  OUT(0, r0);\n  s0 = r0;\n}\n";
+const CODE: &[u8] =
+    b"#include \"fixif.h\"\nSTEP(32, 1, 1, 1)\n{\n  IN(u0, 16);\n  a = 1;\n  a += MUL(1, u0, 0);\n  r0 = LOW(SAR(a, 1), 16);\n  OUT(0, r0);\n  s0 = r0;\n}\n";
 
-const CERT: &[u8] = b"fixif certificate 1\nlength 1\nrows 2\nX 51\nX 50\noutputs 1\nE 9223372036854775808\nend\n";
+const CERT: &[u8] =
+    b"fixif certificate 1\nlength 1\nrows 2\nX 51\nX 50\noutputs 1\nE 9223372036854775808\nend\n";
 
-const LOW_CERT: &[u8] = b"fixif certificate 1\nlength 1\nrows 2\nX 50\nX 50\noutputs 1\nE 9223372036854775808\nend\n";
+const LOW_CERT: &[u8] =
+    b"fixif certificate 1\nlength 1\nrows 2\nX 50\nX 50\noutputs 1\nE 9223372036854775808\nend\n";
+
+// 999999.9 against -16777215: the weights of the difference reach 2^88.
+const WIDE_FILTER: &[u8] =
+    b"form = \"tf\"\nb = [\"999999.9\"]\na = [\"1\"]\ninputs = [{ width = 16, bound = 100 }]\noutputs = [{ width = 16, error = \"1\" }]\naccumulator = 32\n";
+
+const WIDE_CODE: &[u8] =
+    b"#include \"fixif.h\"\nSTEP(32, 1, 1, 1)\n{\n  IN(u0, 16);\n  a = 0;\n  a += MUL(-16777215, u0, 0);\n  r0 = LOW(SAR(a, 0), 16);\n  OUT(0, r0);\n  s0 = r0;\n}\n";
 
 const ACCEPTED: &[u8] = b"accepted\nerror 0 0.500000000\n";
 
@@ -86,7 +97,7 @@ fn answer_of(
 
 #[test]
 fn answers_by_the_files(rt: HostRuntime) -> Result<(), Fail> {
-    let table: [(&[u8], &[u8], &[u8], Status, &[u8]); 6] = [
+    let table: [(&[u8], &[u8], &[u8], Status, &[u8]); 7] = [
         (FILTER, CODE, CERT, Status::Done, ACCEPTED),
         (
             FILTER,
@@ -95,9 +106,34 @@ fn answers_by_the_files(rt: HostRuntime) -> Result<(), Fail> {
             Status::Refused,
             b"refused I3 row 0 931560575722332356608 922337203685477580800\n",
         ),
-        (b"x", CODE, CERT, Status::NotBuiltYet, b"not built yet filter\n"),
-        (FILTER, b"x", CERT, Status::NotBuiltYet, b"not built yet code\n"),
-        (FILTER, CODE, b"x", Status::NotBuiltYet, b"not built yet certificate\n"),
+        (
+            WIDE_FILTER,
+            WIDE_CODE,
+            CERT,
+            Status::Refused,
+            b"refused I2 target 2 input 0 327931733603636139260274279 309485009821345068724781056\n",
+        ),
+        (
+            b"x",
+            CODE,
+            CERT,
+            Status::NotBuiltYet,
+            b"not built yet filter\n",
+        ),
+        (
+            FILTER,
+            b"x",
+            CERT,
+            Status::NotBuiltYet,
+            b"not built yet code\n",
+        ),
+        (
+            FILTER,
+            CODE,
+            b"x",
+            Status::NotBuiltYet,
+            b"not built yet certificate\n",
+        ),
         (FILTER, CODE, b"", Status::ReadFault, b""),
     ];
     for (filter, code, cert, status, text) in table {

@@ -1,4 +1,4 @@
-use Rattle.std.proofs.Common.{◌≡◌, ◌∙◌, ◌∷◌, ◌++◌, ap, ◌*◌, ◌/◌, ◌%◌, ◌^◌, ℕ, List}
+use Rattle.std.proofs.Common.{◌∙◌, ◌∷◌, ◌++◌, ap, ◌/◌, ◌%◌, ◌^◌, ℕ, List}
 use Rattle.std.proofs.lemmas.Result.{IfOk-weaker}
 use Rattle.std.specs.Fmt.{decimal}
 use Rattle.fx_tool.specs.Printed.{nine_digits}

@@ -1,4 +1,4 @@
-use Rattle.std.proofs.Common.{arith, rules}
+use Rattle.std.proofs.Common.{arith}
 use Rattle.fx_tool.proofs.WrittenSoFar.{put_next}
 use Rattle.fx_tool.proofs.writing.put_all.Goals as goal
 
