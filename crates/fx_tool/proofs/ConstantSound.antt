@@ -1,5 +1,5 @@
 -- The law of constant filters.
-use Rattle.std.proofs.Common.{◌≡◌, ℕ, zero, suc, ◌+◌, ◌-◌, ◌*◌, ◌/◌, ◌^◌, ◌<◌, ◌≤◌, ◌==◌, nat_lt, nat_le, max, Bool, true, false, if◌then◌else◌, ℤ, pos, ◌+ℤ◌, ◌-ℤ◌, ◌*ℤ◌, unsigned_abs, List, [], ◌∷◌, slice_get, slice_index, add-one, lit<, Option, Some, None, arith, ap, sym, ◌∙◌, refl, subst}
+use Rattle.std.proofs.Common.{◌≡◌, ℕ, zero, suc, ◌+◌, ◌-◌, ◌*◌, ◌/◌, ◌^◌, ◌<◌, ◌≤◌, ◌==◌, nat_lt, nat_le, max, Bool, true, false, not, if◌then◌else◌, ℤ, pos, ◌+ℤ◌, ◌-ℤ◌, ◌*ℤ◌, unsigned_abs, List, [], ◌∷◌, slice_get, slice_index, add-one, lit<, Option, Some, None, arith, ap, sym, ◌∙◌, refl, subst}
 use Rattle.std.proofs.lemmas.Bool.{eqb-true, leb-true}
 use Rattle.std.proofs.lemmas.Int.{ints, unsigned_abs-mul}
 use Rattle.std.proofs.lemmas.Nat.{pow_pos}
@@ -20,8 +20,11 @@ use Rattle.fx_tool.specs.ConstantCode.{CodeNumbers, code_of}
 use Rattle.fx_tool.specs.Numeral.{signed}
 use Rattle.fx_tool.specs.ConstantFilter.{ConstantFilter, filter_of, target_of}
 use Rattle.fx_tool.specs.ConstantLaw.{ConstantLaw}
-use Rattle.fx_tool.specs.Equations.{Term, Equations, two_part, ten_part, common, exact_value}
-use Rattle.fx_tool.specs.Equations.Source.{Input}
+use Rattle.fx_eqs.specs.Denominator.{two_part, ten_part, common}
+use Rattle.fx_eqs.specs.Equations.{Equations}
+use Rattle.fx_eqs.specs.ExactRun.{exact_value}
+use Rattle.fx_eqs.specs.declared.term.Source.TheVariants.{In}
+use Rattle.fx_eqs.specs.declared.term.Term.{Term}
 use Rattle.fx_tool.specs.Filter.{OutputFormat, word_at, IsAdmissible}
 use Rattle.fx_tool.specs.Inequalities.{unless, code_total, filter_total, difference_total, gain_difference, first_refusal}
 use Rattle.fx_tool.specs.Sound.{IsNear, IsNearAt}
@@ -123,14 +126,14 @@ near_product f n x e h v small =
 -- ---- the exact value
 
 abbrev system : List Term → Equations
-system terms = record { rows = 1; inputs = 1; terms = terms }
+system terms = record { rows = 1; inputs = 1; terms = terms; outputs = 0 ∷ [] }
 
 -- a word is near the value of the row with these terms
 abbrev IsNearValue : List Term → ℤ → (ℕ → ℕ → ℤ) → ℕ → ℕ → Type 0
 IsNearValue terms y u k e = let q = common (system terms) in IsNear y (exact_value (system terms) q u k 0) (q ^ (k * 1 + 0 + 1)) 0 0 e
 
 abbrev term_of : Fraction → Term
-term_of c = record { row = 0; coef = c; from = Input 0; lag = 0 }
+term_of c = record { row = 0; coef = c; from = In 0; lag = 0 }
 
 -- the common denominator of one term is its own
 common_is : (d : Den) → max (two_part d) 1 * max (ten_part d) 1 ≡ den_value d
@@ -166,13 +169,17 @@ without_term y v d g e positive h =
 no_coefficient : (z : ℤ) → unsigned_abs z ≡ 0 → z ≡ pos 0
 no_coefficient z h = omega (arith, ints)
 
+is_zero : (b : Bool) → not b ≡ false → b ≡ true
+is_zero true h = refl
+is_zero false h = cc
+
 -- either way
-near_value : (c : Fraction) (y : ℤ) (u : ℕ → ℕ → ℤ) (k e : ℕ) (none : Bool) → (unsigned_abs c.num == 0) ≡ none →
-    let d = den_value c.den in 2 ^ 64 * unsigned_abs (y *ℤ pos d -ℤ c.num *ℤ u k 0) ≤ e * d → IsNearValue (if none then [] else term_of c ∷ []) y u k e
-near_value c y u k e true is h =
-    let zero_num : c.num ≡ pos 0 = no_coefficient c.num (eqb-true _ _ is) in
+near_value : (c : Fraction) (y : ℤ) (u : ℕ → ℕ → ℤ) (k e : ℕ) (some : Bool) → not (unsigned_abs c.num == 0) ≡ some →
+    let d = den_value c.den in 2 ^ 64 * unsigned_abs (y *ℤ pos d -ℤ c.num *ℤ u k 0) ≤ e * d → IsNearValue (if some then term_of c ∷ [] else []) y u k e
+near_value c y u k e true is h = with_term c y u k e h
+near_value c y u k e false is h =
+    let zero_num : c.num ≡ pos 0 = no_coefficient c.num (eqb-true _ _ (is_zero (unsigned_abs c.num == 0) is)) in
     without_term y (u k 0) (den_value c.den) (1 ^ (k * 1 + 0 + 1)) e (den_pos c.den) (rw zero_num at h)
-near_value c y u k e false is h = with_term c y u k e h
 
 -- ---- all moments
 
@@ -197,7 +204,7 @@ near_at : (f : ConstantFilter) (n : CodeNumbers) (x e : ℕ) → 0 < n.accumulat
 near_at f n x e deep wide h u k small zero format is =
     let near = near_product f n x e h (u k 0) small in
     let word = word_is n u k deep wide (fits f n x e h (u k 0) small) in
-    let value = near_value f.coefficient (floored n (u k 0)) u k e (unsigned_abs f.coefficient.num == 0) refl near in
+    let value = near_value f.coefficient (floored n (u k 0)) u k e (not (unsigned_abs f.coefficient.num == 0)) refl near in
     let first : IsNearAt (filter_of f) (code_of n) u k 0 (output_of f) e = rw word value in
     let same : output_of f ≡ format = cc in
     subst (λ (r : OutputFormat). IsNearAt (filter_of f) (code_of n) u k 0 r e) same first

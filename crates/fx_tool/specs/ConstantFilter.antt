@@ -1,17 +1,18 @@
 -- Filters of one coefficient: the text of their file, and what it means.
-use Rattle.std.specs.Prelude.{◌≡◌, ℕ, ◌-◌, ◌^◌, ◌<◌, ◌≤◌, ◌⊎◌, ◌==◌, false, if◌then◌else◌, ℤ, pos, ◌*ℤ◌, unsigned_abs, List, [], ◌∷◌, ◌++◌, codes}
+use Rattle.std.specs.Prelude.{◌≡◌, ℕ, ◌-◌, ◌^◌, ◌<◌, ◌≤◌, ◌⊎◌, false, ℤ, pos, ◌*ℤ◌, List, [], ◌∷◌, ◌++◌, codes}
 use Rattle.std.specs.Fmt.{decimal}
 use Rattle.fx_math.specs.Division.{floor_div}
 use Rattle.fx_nums.specs.Fraction.{Fraction, den_value}
 use Rattle.fx_tool.specs.Numeral.{Numeral, numeral_text, numeral_value, IsPlain}
-use Rattle.fx_tool.specs.Equations.{Term}
-use Rattle.fx_tool.specs.Equations.Source.{Input}
+use Rattle.fx_eqs.specs.Equations.{kept}
+use Rattle.fx_eqs.specs.declared.term.Source.TheVariants.{In}
+use Rattle.fx_eqs.specs.declared.term.Term.{Term}
 use Rattle.fx_tool.specs.Filter.{Filter}
 pub use Rattle.fx_tool.specs.declared.constant.ConstantFilter.{ConstantFilter}
 
 -- a coefficient 0 makes no term
 abbrev pub terms_of : Fraction → List Term
-terms_of c = if unsigned_abs c.num == 0 then [] else record { row = 0; coef = c; from = Input 0; lag = 0 } ∷ []
+terms_of c = kept (record { row = 0; coef = c; from = In 0; lag = 0 } ∷ [])
 
 -- the wanted error at the scale 2 ^ -64, rounded down
 abbrev pub target_of : Fraction → ℤ
@@ -23,7 +24,7 @@ filter_of f = record {
   inputs = record { width = f.input_width; bound = pos f.bound } ∷ [];
   outputs = record { row = 0; width = f.output_width; low = pos 0; error = f.error; target = target_of f.error } ∷ [];
   accumulator = f.accumulator;
-  equations = record { rows = 1; inputs = 1; terms = terms_of f.coefficient };
+  equations = record { rows = 1; inputs = 1; terms = terms_of f.coefficient; outputs = 0 ∷ [] };
 }
 
 -- ---- the file

@@ -2,7 +2,7 @@
 use Rattle.std.specs.Prelude.{ℕ, ℤ, pos, ◌≤ℤ◌, unsigned_abs, List, [], slice_index_or}
 use Rattle.std.specs.List.{AllZip, AllByRecursion}
 use Rattle.fx_nums.specs.Fraction.{Fraction}
-use Rattle.fx_tool.specs.Equations.{Equations}
+use Rattle.fx_eqs.specs.Equations.{Equations}
 
 -- an input's words have this many bits, and magnitudes up to the bound
 pub record InputFormat : Type 0 where

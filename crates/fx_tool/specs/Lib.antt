@@ -7,7 +7,6 @@ pub mod Command
 pub mod ConstantCode
 pub mod ConstantFilter
 pub mod ConstantLaw
-pub mod Equations
 pub mod Filter
 pub mod FilterReading
 pub mod Inequalities

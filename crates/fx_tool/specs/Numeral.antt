@@ -1,8 +1,10 @@
 -- Plain decimal numerals, and the fractions that they mean.
-use Rattle.std.specs.Prelude.{ℕ, zero, suc, ◌+◌, ◌-◌, ◌*◌, ◌/◌, ◌%◌, ◌≤◌, ◌==◌, Bool, if◌then◌else◌, ℤ, pos, neg_ℤ, List, [], ◌∷◌, ◌++◌, length}
+use Rattle.std.specs.Prelude.{ℕ, ◌≤◌, Bool, if◌then◌else◌, List, [], ◌∷◌, ◌++◌, length}
 use Rattle.std.specs.List.{AllByRecursion}
 use Rattle.fx_nums.specs.Fraction.{Fraction}
 use Rattle.fx_nums.specs.declared.fraction.Den.TheVariants.{Ten}
+pub use Rattle.fx_decimal.specs.Numeral.{IsDigit, number_from, signed}
+pub use Rattle.fx_decimal.specs.Printed.{lowest}
 
 -- a sign, the digits before the point, and those after it, as characters
 pub record Numeral : Type 0 where
@@ -22,27 +24,11 @@ after_text (c ∷ cs) = 46 ∷ c ∷ cs
 abbrev pub numeral_text : Numeral → List ℕ
 numeral_text n = sign_text n.negative ++ (n.whole ++ after_text n.after)
 
--- digits, read as one whole number
-abbrev pub number_from : ℕ → List ℕ → ℕ
-number_from n [] = n
-number_from n (c ∷ cs) = number_from (10 * n + (c - 48)) cs
-
--- n / 10 ^ d with the least power of ten that serves
-abbrev pub lowest : ℕ → ℕ → ℕ × ℕ
-lowest n zero = (n, 0)
-lowest n (suc d) = if n % 10 == 0 then lowest (n / 10) d else (n, suc d)
-
-abbrev pub signed : Bool → ℕ → ℤ
-signed negative n = if negative then neg_ℤ (pos n) else pos n
-
 -- all digits as one whole number, over ten to the power of the count of those after the point, in lowest terms
 abbrev pub numeral_value : Numeral → Fraction
 numeral_value n =
     let parts = lowest (number_from 0 (n.whole ++ n.after)) (length n.after) in
     record { num = signed n.negative parts.0; den = Ten parts.1 }
-
-abbrev pub IsDigit : ℕ → Type 0
-IsDigit c = (48 ≤ c) × (c ≤ 57)
 
 -- 1 to 6 digits before the point, and up to 6 after it
 pub record IsPlain (n : Numeral) : Type 0 where

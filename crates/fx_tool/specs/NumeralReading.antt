@@ -1,15 +1,10 @@
 -- How plain decimal numerals are read.
 use Rattle.std.specs.Prelude.{ℕ, ◌&&◌, nat_le, Bool, true, false, List, length, drop, codes, Option, Some, None, if◌then◌else◌}
-use Rattle.std.specs.Char.{is_ascii_digit}
-use Rattle.std.specs.List.{take_while}
 use Rattle.fx_nums.specs.Fraction.{Fraction}
 use Rattle.fx_nums.specs.declared.fraction.Den.TheVariants.{Ten}
 use Rattle.fx_tool.specs.Numeral.{lowest, number_from, signed}
 use Rattle.fx_tool.specs.Text.{◌>>=◌, text_in}
-
--- the digits at the front
-abbrev pub front_digits : List ℕ → List ℕ
-front_digits text = take_while is_ascii_digit text
+pub use Rattle.fx_decimal.specs.Faults.{front_digits}
 
 -- 1 to 6 digits at the front, all that stand there: the number that they write behind the digits of another, their count, and what follows them
 unfoldable pub digits_in : ℕ → List ℕ → Option (ℕ × ℕ × List ℕ)

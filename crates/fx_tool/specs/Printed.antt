@@ -1,18 +1,14 @@
 -- The printed lines.
-use Rattle.std.specs.Prelude.{ℕ, ◌+◌, ◌-◌, ◌*◌, ◌/◌, ◌%◌, ◌^◌, List, [], ◌∷◌, ◌++◌, length, replicate, codes}
+use Rattle.std.specs.Prelude.{ℕ, ◌+◌, pos, List, [], ◌∷◌, ◌++◌, codes}
 use Rattle.std.specs.Fmt.{decimal}
-use Rattle.std.specs.Int.{div_ceil}
+use Rattle.fx_decimal.specs.Printed.{up_text}
 use Rattle.fx_tool.specs.declared.inequality.Inequality.{Inequality}
 use Rattle.fx_tool.specs.declared.inequality.Inequality.TheVariants.{Accumulator, InputWidth, OutputWidth, Sweep, Bound, Word, Sum, Error, Wanted}
 use Rattle.fx_tool.specs.declared.inequality.Refusal.{Refusal}
 
--- a number below 10 ^ 9, with zeros before it up to nine digits
-abbrev pub nine_digits : ℕ → List ℕ
-nine_digits r = replicate (9 - length (decimal r)) 48 ++ decimal r
-
 -- e / 2 ^ 64 in nine places, rounded up in the last
 abbrev pub decimal_up : ℕ → List ℕ
-decimal_up e = let n = div_ceil (e * 10 ^ 9) (2 ^ 64) in decimal (n / 10 ^ 9) ++ (46 ∷ nine_digits (n % 10 ^ 9))
+decimal_up e = up_text (pos e) 9
 
 -- the lines of the errors, from output j on
 abbrev pub error_lines : ℕ → List ℕ → List ℕ

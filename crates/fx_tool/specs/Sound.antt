@@ -3,7 +3,8 @@ use Rattle.std.specs.Prelude.{◌≡◌, ℕ, ◌+◌, ◌*◌, ◌^◌, ◌<◌
 use borrow.Author.Differences.{up, down}
 use Rattle.fx_code.specs.Code.{Code}
 use Rattle.fx_code.specs.Run.{output_word, IsExact}
-use Rattle.fx_tool.specs.Equations.{common, exact_value}
+use Rattle.fx_eqs.specs.Denominator.{common}
+use Rattle.fx_eqs.specs.ExactRun.{exact_value}
 use Rattle.fx_tool.specs.Filter.{InputFormat, OutputFormat, Filter, word_at, IsAdmissible}
 
 -- the word y differs from the value z / g, times 2 ^ b over 2 ^ a, by at most e / 2 ^ 64

@@ -16,14 +16,14 @@ use fx_io::{IoFault, Shelf, Sink};
 use std::alloc::{AllocError, Global};
 
 // Ends with this status, once the text is put.
-fn finish<K: Sink>(out: &mut K, text: &str, status: Status) -> Status
+fn finish<K: Sink>(out: &mut K, text: &[u8], status: Status) -> Status
     requires not_written { status ≢ Status.WriteFault }
     requires not_memory { status ≢ Status.NoMemory }
     ensures gives { Gives (says status text.now) result (K.told out.old) (K.told out.new) }
     ensures spoken { result ≡ Status.ReadFault → status ≡ Status.ReadFault }
     ensures cause { result ≡ Status.WriteFault → Rose (K.faults out.old) (K.faults out.new) }
 {
-    match put_all(out, text.as_bytes()) {
+    match put_all(out, text) {
         Ok(()) => status,
         Err(IoFault::Failed) => Status::WriteFault,
         Err(IoFault::NoMemory) => Status::NoMemory,
@@ -39,14 +39,14 @@ fn tell<K: Sink>(alloc: Global, out: &mut K, outcome: &Outcome) -> Status
 {
     match *outcome {
         Outcome::Accepted(claim) => match accepted(alloc, claim.error) {
-            Ok(text) => finish(out, text.as_str(), Status::Done),
+            Ok(text) => finish(out, &text, Status::Done),
             Err(AllocError) => Status::NoMemory,
         },
         Outcome::Refused(refusal) => match refused(alloc, &refusal) {
-            Ok(text) => finish(out, text.as_str(), Status::Refused),
+            Ok(text) => finish(out, text.as_bytes(), Status::Refused),
             Err(AllocError) => Status::NoMemory,
         },
-        Outcome::NotBuilt(part) => finish(out, not_built(part), Status::NotBuiltYet),
+        Outcome::NotBuilt(part) => finish(out, not_built(part).as_bytes(), Status::NotBuiltYet),
     }
 }
 
@@ -65,7 +65,7 @@ fn answer<S: Shelf, K: Sink>(alloc: Global, words: &[String], shelf: &mut S, out
     ensures calls { S.calls shelf.new ≤ S.calls shelf.old + command_calls (S.files shelf.old) (operands_of (texts words.now)) }
 {
     let Some(operands) = check_operands(words) else {
-        return finish(out, "not built yet words\n", Status::NotBuiltYet);
+        return finish(out, b"not built yet words\n", Status::NotBuiltYet);
     };
     match decide(alloc, &operands, shelf) {
         Ok(outcome) => tell(alloc, out, &outcome),

@@ -1,42 +1,38 @@
-ghost use Rattle.std.specs.Prelude.{◌≡◌, ◌-◌, ◌<◌, ◌^◌, ◌∷◌, ◌++◌, [], false, IfOk, codes};
+ghost use Rattle.std.specs.Prelude.{◌≡◌, ◌<◌, ◌^◌, ◌∷◌, ◌++◌, [], IfOk, codes};
 ghost use Rattle.std.specs.String.{string_bytes};
-ghost use Rattle.std.specs.Fmt.{decimal, format_spec, padded_integral};
+ghost use Rattle.std.specs.Fmt.{decimal};
 ghost use Rattle.fx_tool.specs.Outcome.{not_built_text};
 ghost use Rattle.fx_tool.specs.Printed.{accepted_text, decimal_up, name_of, refused_text};
 
 use crate::inequality::{Inequality, Refusal};
 use crate::outcome::Part;
+use fx_decimal::{Decimal, print_up};
 use std::alloc::{AllocError, Global};
 
-// A whole number, a point and nine digits.
-fn nine_places(alloc: Global, whole: u128, rest: u128) -> Result<String, AllocError>
-    ensures { IfOk result (λ t. string_bytes t ≡ decimal whole ++ (46 ∷ padded_integral (format_spec 32 0 4 9 (2 ^ 64 - 1)) false [] (decimal rest))) }
-{
-    format!(in alloc; "{whole}.{rest:09}")
-}
-
 // An error at the scale 2^-64, in nine places, rounded up in the last.
-fn decimal_up(alloc: Global, error: u128) -> Result<String, AllocError>
+fn decimal_up(error: u128) -> Decimal
     requires { error < 2 ^ 96 }
-    ensures { IfOk result (λ t. string_bytes t ≡ decimal_up error) }
+    ensures { result ≡ decimal_up error }
 {
-    let units = (error * 1_000_000_000).div_ceil(1 << 64);
-    nine_places(alloc, units / 1_000_000_000, units % 1_000_000_000)
+    print_up(error as i128, 9)
 }
 
-fn accepted_lines(alloc: Global, error: &str) -> Result<String, AllocError>
-    ensures { IfOk result (λ t. string_bytes t ≡ codes "accepted\nerror 0 " ++ (error.now ++ codes "\n")) }
+fn accepted_lines(alloc: Global, error: &[u8]) -> Result<Vec<u8>, AllocError>
+    ensures { IfOk result (λ t. t.items ≡ (codes "accepted\nerror 0 " ++ error.now) ++ codes "\n") }
 {
-    format!(in alloc; "accepted\nerror 0 {error}\n")
+    let mut text = Vec::new(alloc);
+    text.extend_from_slice(b"accepted\nerror 0 ")?;
+    text.extend_from_slice(error)?;
+    text.push(b'\n')?;
+    Ok(text)
 }
 
 /// The lines of an accepted certificate, with its error in output steps.
-pub fn accepted(alloc: Global, error: u128) -> Result<String, AllocError>
+pub fn accepted(alloc: Global, error: u128) -> Result<Vec<u8>, AllocError>
     requires { error < 2 ^ 96 }
-    ensures { IfOk result (λ t. string_bytes t ≡ accepted_text (error ∷ [])) }
+    ensures { IfOk result (λ t. t.items ≡ accepted_text (error ∷ [])) }
 {
-    let error = decimal_up(alloc, error)?;
-    accepted_lines(alloc, error.as_str())
+    accepted_lines(alloc, decimal_up(error).bytes())
 }
 
 // The name of an inequality, with its place.

@@ -7,5 +7,5 @@ use Rattle.fx_tool.proofs.command.tell.Goals as goal
 pub returns-in-Ok-clause-gives : goal.returns-in-Ok-clause-gives
 returns-in-Ok-clause-gives g c =
     rw c.in-Accepted.is (
-    gives_text Done c.as_str.result.now (accepted_text (c.in-Accepted.claim.error ∷ [])) c.finish.result (g.K.Sink.told c.args.out.now) (g.K.Sink.told c.finish.new.out) (c.as_str.ensures.value ∙ c.in-Ok.ensures) c.finish.ensures.gives
+    gives_text Done c.deref.result.now (accepted_text (c.in-Accepted.claim.error ∷ [])) c.finish.result (g.K.Sink.told c.args.out.now) (g.K.Sink.told c.finish.new.out) (c.deref.ensures.value ∙ c.in-Ok.ensures) c.finish.ensures.gives
     )

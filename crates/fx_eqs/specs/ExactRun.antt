@@ -1,56 +1,18 @@
--- Equation systems, and their exact values over a common denominator that grows with each row.
-use Rattle.std.specs.Prelude.{ℕ, zero, suc, ◌+◌, ◌-◌, ◌*◌, ◌^◌, max, ◌==◌, if◌then◌else◌, ℤ, pos, ◌+ℤ◌, ◌*ℤ◌, List, [], ◌∷◌}
+-- The exact values of an equation system, over a common denominator that grows with each row.
+use Rattle.std.specs.Prelude.{ℕ, zero, suc, ◌+◌, ◌-◌, ◌*◌, ◌^◌, ◌==◌, if◌then◌else◌, ℤ, pos, ◌+ℤ◌, ◌*ℤ◌, List, [], ◌∷◌}
 use Rattle.fx_math.specs.Unroll.{fill, lagged}
-use Rattle.fx_nums.specs.Fraction.{Fraction, over}
-use Rattle.fx_nums.specs.declared.fraction.Den.{Den}
-use Rattle.fx_nums.specs.declared.fraction.Den.TheVariants.{Two, Ten}
-
--- what a term reads
-pub data Source : Type 0 where
-  Row : ℕ → Source
-  Input : ℕ → Source
-
--- the row has this summand: a coefficient times a source, lag moments before
-pub record Term : Type 0 where
-  pub row : ℕ
-  pub coef : Fraction
-  pub from : Source
-  pub lag : ℕ
-
--- rows and inputs are numbered from 0
-pub record Equations : Type 0 where
-  pub rows : ℕ
-  pub inputs : ℕ
-  pub terms : List Term
-
--- ---- a denominator of all coefficients
-
--- the power of two in a denominator, and the power of ten; each is 1 where there is none
-abbrev pub two_part : Den → ℕ
-two_part (Two e) = 2 ^ e
-two_part (Ten d) = 1
-
-abbrev pub ten_part : Den → ℕ
-ten_part (Two e) = 1
-ten_part (Ten d) = 10 ^ d
-
--- the greatest among the terms, and 1 where there is none
-abbrev pub greatest : (Den → ℕ) → List Term → ℕ
-greatest part [] = 1
-greatest part (t ∷ ts) = max (part t.coef.den) (greatest part ts)
-
--- the product of both, which each denominator divides
-abbrev pub common : Equations → ℕ
-common eqs = greatest two_part eqs.terms * greatest ten_part eqs.terms
-
--- ---- the exact run
+use Rattle.fx_nums.specs.Fraction.{over}
+use Rattle.fx_eqs.specs.Equations.{Equations}
+use Rattle.fx_eqs.specs.declared.term.Source.{Source}
+use Rattle.fx_eqs.specs.declared.term.Source.TheVariants.{Row, In}
+use Rattle.fx_eqs.specs.declared.term.Term.{Term}
 
 -- The value of row j at moment k is a whole number over q ^ (k * rows + j + 1).
 -- What a term of row i reads at moment k, over q ^ (k * rows + i): a row at the distance lag * rows + i - j, or an input.
 -- `values l j` is row j, l moments before.
 abbrev pub value_read : Equations → ℕ → (ℕ → ℕ → ℤ) → ℕ → ℕ → (ℕ → ℕ → ℤ) → Source → ℕ → ℤ
 value_read eqs q u k i values (Row j) lag = values lag j *ℤ pos (q ^ (lag * eqs.rows + i - j - 1))
-value_read eqs q u k i values (Input j) lag = lagged u k lag j *ℤ pos (q ^ (k * eqs.rows + i))
+value_read eqs q u k i values (In j) lag = lagged u k lag j *ℤ pos (q ^ (k * eqs.rows + i))
 
 -- the sum of the terms of row i at moment k
 abbrev pub terms_sum : Equations → ℕ → (ℕ → ℕ → ℤ) → ℕ → ℕ → (ℕ → ℕ → ℤ) → List Term → ℤ

@@ -1,0 +1,5 @@
+mod Digits
+mod KeptLaws
+mod Places
+mod ReadingLaws
+mod Units

@@ -1,0 +1,5 @@
+mod Examples
+pub mod ExactRows
+pub mod Expanding
+mod FirstFault
+mod Kept

@@ -1,0 +1,10 @@
+pub mod Denominator
+pub mod Equations
+pub mod ExactRun
+pub mod Expanded
+pub mod Faults
+pub mod Fits
+pub mod Inside
+pub mod Lags
+pub mod Laws
+pub mod Textbook

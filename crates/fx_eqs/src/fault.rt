@@ -1,0 +1,20 @@
+/// Why terms make no equation system. A number of 32 bits is the place of a term among the given ones.
+#[derive(Clone, Copy, Debug, PartialEq, Eq)]
+pub enum EqsFault {
+    /// The term reads a row of the same moment that is not an earlier one.
+    ForwardNow(u32),
+    /// The term's row, or the row that it reads, is not below the count of rows.
+    RowRange(u32),
+    /// The input that the term reads is not below the count of inputs.
+    InputRange(u32),
+    /// The term's lag is above 12.
+    LagRange(u32),
+    /// So many terms with a coefficient other than 0: more than 400.
+    TooManyTerms(usize),
+    /// So many rows of the expanded net: more than 24, or 0 where there are no rows.
+    TooManyRows(usize),
+    /// An earlier term has the same row, source and lag.
+    Twice(u32),
+    /// Memory was refused.
+    NoMemory,
+}

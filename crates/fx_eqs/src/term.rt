@@ -1,0 +1,19 @@
+use fx_nums::Frac;
+
+/// What a term reads.
+#[derive(Clone, Copy, Debug, PartialEq, Eq)]
+pub enum Source {
+    /// The row of this number.
+    Row(u8),
+    /// The input of this number.
+    In(u8),
+}
+
+/// A summand of a row: a coefficient times a source, `lag` moments before.
+#[derive(Clone, Copy, Debug, PartialEq, Eq)]
+pub struct Term {
+    pub row: u8,
+    pub coef: Frac,
+    pub from: Source,
+    pub lag: u8,
+}
