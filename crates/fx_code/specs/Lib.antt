@@ -1,6 +1,11 @@
 pub mod Code
 pub mod Fits
+pub mod Inputs
 pub mod Inside
 pub mod Laws
 pub mod Limits
+pub mod Marks
+pub mod Moments
+pub mod Prepared
 pub mod Run
+pub mod Standing

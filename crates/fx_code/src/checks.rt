@@ -41,7 +41,7 @@ fn shifted(z: i128, left: u8) -> i128
 }
 
 // A coefficient shifted to the left.
-fn weight_of(term: &CodeTerm) -> i128
+pub fn weight_of(term: &CodeTerm) -> i128
     requires left { term.now.left ≤ 62 }
     requires coefficient { unsigned_abs term.now.coef < 2 ^ 62 }
     ensures { result ≡ weight term.now }

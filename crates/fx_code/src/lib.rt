@@ -3,11 +3,23 @@
 
 mod checks;
 mod fault;
+mod laws;
+mod machine;
+#[cfg(test)]
+mod machine_tests;
+mod moment;
+mod prepared;
 mod program;
+mod sums;
 mod term;
 #[cfg(test)]
 mod tests;
 
 pub use fault::{LimitOf, ProgramFault};
-pub use program::{Program, exact_words_are_floored_sums, programs_fit};
+pub use laws::{
+    exact_words_are_floored_sums, outputs_are_output_words, words_read_no_later_inputs,
+};
+pub use machine::Machine;
+pub use moment::Marks;
+pub use program::{Program, programs_fit};
 pub use term::{CodeTerm, Read};

@@ -1,13 +1,14 @@
-ghost use Rattle.std.specs.Prelude.{◌≡◌, ◌<◌, ◌≤◌, ◌^◌, ◌≤ℤ◌, ◌++◌, [], ◌∷◌, length, IfOk, OnOk, OnErr, pos, slice_index, All};
-ghost use Rattle.fx_code.specs.Code.{Row, Code, row_at, constant_of};
+ghost use Rattle.fx_code.specs.declared.term.CodeTerm.{CodeTerm};
+ghost use Rattle.std.specs.Prelude.{map, ◌≡◌, ◌↔◌, IsTrue, ◌<◌, ◌≤◌, ◌^◌, ◌≤ℤ◌, ◌++◌, [], ◌∷◌, length, IfOk, OnOk, OnErr, pos, slice_index, All};
+ghost use Rattle.fx_code.specs.Code.{Row, Code, row_at, constant_of, OldIsThere, IsWhole};
+ghost use Rattle.fx_code.specs.Inside.{row_of, RowReadsFit};
 ghost use Rattle.fx_code.specs.Fits.{TermFits, RowFits, WidthFits, CodeFits};
-ghost use Rattle.fx_code.specs.Laws.{ExactWords};
 ghost use Rattle.fx_code.specs.Limits.{start_fault, row_fault, output_fault, fault_told};
 
 use crate::checks::{start_fault, terms_fault};
 use crate::fault::{LimitOf, ProgramFault};
-use crate::term::CodeTerm;
-use std::alloc::Global;
+use crate::term::{CodeTerm, Read};
+use std::alloc::{AllocError, Global};
 use std::marker::Model;
 
 #[derive(Drop)]
@@ -42,8 +43,6 @@ impl Model for Program {
 }
 
 impl Program {
-    ghost use Rattle.fx_code.specs.Inside.{row_of};
-
     /// A program without rows, over accumulators of 16, 32 or 64 bits, with 1 to 4 inputs of 2 to 32 bits.
     /// Its error is the first fault, and `NoMemory` only where there is none.
     pub fn start(
@@ -150,6 +149,30 @@ impl Program {
         }
     }
 
+    /// An equal program. Its error is want of memory.
+    pub fn copy(&self, alloc: Global) -> Result<Program, AllocError>
+        ensures { IfOk result (λ p. p ≡ self.now) }
+    {
+        let inputs = self.inputs.to_vec(alloc)?;
+        let rows = copy_rows(alloc, &self.rows)?;
+        let outputs = self.outputs.to_vec(alloc)?;
+        Ok(Program {
+            alloc,
+            accumulator: self.accumulator,
+            inputs,
+            rows,
+            outputs,
+            terms: self.terms,
+        })
+    }
+
+    /// Whether each row of the moment before that is read is there, and there is an output.
+    pub fn is_whole(&self) -> bool
+        ensures { IsTrue result ↔ IsWhole self.now }
+    {
+        !self.outputs.is_empty() && rows_are_there(&self.rows, self.rows.len())
+    }
+
     /// The bits of the accumulators: 16, 32 or 64.
     pub fn accumulator(&self) -> u8
         ensures value { result ≡ self.now.accumulator }
@@ -247,7 +270,49 @@ impl Program {
     }
 }
 
-fn power_of_two(k: u8) -> i64
+// Equal rows.
+fn copy_rows(alloc: Global, rows: &[ProgramRow]) -> Result<Vec<ProgramRow>, AllocError>
+    ensures { IfOk result (λ v. map row_of v.items ≡ map row_of rows.now) }
+{
+    let mut copies = Vec::new(alloc);
+    for row in rows {
+        let terms = row.terms.to_vec(alloc)?;
+        copies.push(ProgramRow {
+            width: row.width,
+            shift: row.shift,
+            terms,
+        })?;
+    }
+    Ok(copies)
+}
+
+// Whether each row of the moment before that rows read is among so many.
+fn rows_are_there(rows: &[ProgramRow], count: usize) -> bool
+    ensures { IsTrue result ↔ All (RowReadsFit count) rows.now }
+{
+    rows.iter().all(|row| reads_are_there(&row.terms, count))
+}
+
+// Whether each row of the moment before that terms read is among so many.
+fn reads_are_there(terms: &[CodeTerm], rows: usize) -> bool
+    ensures { IsTrue result ↔ All (λ (t : CodeTerm). OldIsThere rows t.from) terms.now }
+{
+    terms.iter().all(|term| read_is_there(term.from, rows))
+}
+
+// Whether a row of the moment before that is read is among so many.
+fn read_is_there(from: Read, rows: usize) -> bool
+    ensures { IsTrue result ↔ OldIsThere rows from }
+{
+    match from {
+        Read::Old(i) => usize::from(i) < rows,
+        Read::Now(_) => true,
+        Read::In(_) => true,
+    }
+}
+
+// The power of two with this exponent.
+pub fn power_of_two(k: u8) -> i64
     requires { k ≤ 62 }
     ensures { result ≡ pos (2 ^ k) }
 {
@@ -259,11 +324,4 @@ pub fn programs_fit(program: &Program)
     ensures { CodeFits program.now }
 {
     let _ = &program.accumulator;
-}
-
-/// A law with nothing to run: the word of an exact row is its whole-number sum, floored by the shift.
-pub fn exact_words_are_floored_sums(program: &Program)
-    ensures { ExactWords program.now }
-{
-    programs_fit(program);
 }

@@ -1,5 +1,11 @@
+pub mod Distinct
 mod Examples
 pub mod ExactRows
 pub mod Expanding
 mod FirstFault
 mod Kept
+pub mod Lattices
+pub mod Matrices
+pub mod NoFault
+pub mod Parts
+pub mod Recursions

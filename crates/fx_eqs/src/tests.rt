@@ -1,5 +1,12 @@
-use crate::{Eqs, EqsFault, Source, Term};
+ghost use Rattle.std.specs.Prelude.{◌≡◌, ◌<◌, ◌≤◌, ◌^◌, length, IfOk};
+ghost use Rattle.fx_eqs.specs.Textbook.{tf_equations, tf_terms};
+
+use crate::{
+    Eqs, EqsFault, Source, Term, cascades_have_no_fault, lattices_have_no_fault,
+    state_spaces_have_no_fault, transfer_functions_have_no_fault, what_fits_has_no_fault,
+};
 use fx_nums::{Den, Frac};
+use std::alloc::{AllocError, Global};
 use std::test::Fail;
 
 fn term(row: u8, coef: i64, from: Source, lag: u8) -> Option<Term> {
@@ -77,5 +84,59 @@ fn counts_are_refused(rt: HostRuntime) -> Result<(), Fail> {
     }
     let long = Eqs::build(rt.alloc(), 31, 1, &many, &[0]).err();
     assert_eq!(rt; long, Some(EqsFault::TooManyTerms(403)));
+    Ok(())
+}
+
+// The system of a transfer function: only memory can be wanting.
+fn of_transfer_function(
+    alloc: Global,
+    b: &[Frac],
+    a: &[Frac],
+    terms: &[Term],
+) -> Result<Eqs, AllocError>
+    requires b_high { length b.now ≤ 13 }
+    requires a_high { length a.now ≤ 13 }
+    requires few { length terms.now < 2 ^ 32 }
+    requires textbook { terms.now ≡ tf_terms b.now a.now }
+    ensures { IfOk result (λ s. s ≡ tf_equations b.now a.now) }
+{
+    transfer_functions_have_no_fault(b, a);
+    match Eqs::build(alloc, 1, 1, terms, &[0]) {
+        Ok(system) => Ok(system),
+        Err(EqsFault::NoMemory) => Err(AllocError),
+        Err(_) => unreachable!(),
+    }
+}
+
+#[test]
+fn a_transfer_function_is_built(rt: HostRuntime) -> Result<(), Fail> {
+    let half = Frac::new(5, Den::Ten(1)).ok_or("in range")?;
+    let terms = [
+        Term {
+            row: 0,
+            coef: half,
+            from: Source::In(0),
+            lag: 0,
+        },
+        Term {
+            row: 0,
+            coef: half,
+            from: Source::In(0),
+            lag: 1,
+        },
+    ];
+    let system = of_transfer_function(rt.alloc(), &[half, half], &[half], &terms)?;
+    assert_eq!(rt; system.terms(), terms.as_slice());
+    Ok(())
+}
+
+#[test]
+fn laws_have_cases(rt: HostRuntime) -> Result<(), Fail> {
+    let half = Frac::new(5, Den::Ten(1)).ok_or("in range")?;
+    what_fits_has_no_fault();
+    cascades_have_no_fault(2, &[half; 12]);
+    state_spaces_have_no_fault(2, 1, 1, &[half; 4], &[half; 2], &[half; 2], &[half]);
+    lattices_have_no_fault(&[half; 11], &[half; 12]);
+    assert_eq!(rt; half.num(), 5);
     Ok(())
 }

@@ -17,7 +17,6 @@ use Rattle.fx_nums.specs.Interval.{magnitude}
 use Rattle.fx_code.specs.Code.{constant_of}
 use Rattle.fx_code.specs.Run.{IsExact, output_word}
 use Rattle.fx_tool.specs.ConstantCode.{CodeNumbers, code_of}
-use Rattle.fx_tool.specs.Numeral.{signed}
 use Rattle.fx_tool.specs.ConstantFilter.{ConstantFilter, filter_of, target_of}
 use Rattle.fx_tool.specs.ConstantLaw.{ConstantLaw}
 use Rattle.fx_eqs.specs.Denominator.{two_part, ten_part, common}
@@ -25,7 +24,8 @@ use Rattle.fx_eqs.specs.Equations.{Equations}
 use Rattle.fx_eqs.specs.ExactRun.{exact_value}
 use Rattle.fx_eqs.specs.declared.term.Source.TheVariants.{In}
 use Rattle.fx_eqs.specs.declared.term.Term.{Term}
-use Rattle.fx_tool.specs.Filter.{OutputFormat, word_at, IsAdmissible}
+use Rattle.fx_code.specs.Inputs.{word_at}
+use Rattle.fx_tool.specs.Filter.{OutputFormat, IsAdmissible}
 use Rattle.fx_tool.specs.Inequalities.{unless, code_total, filter_total, difference_total, gain_difference, first_refusal}
 use Rattle.fx_tool.specs.Sound.{IsNear, IsNearAt}
 use Rattle.fx_tool.specs.declared.inequality.Inequality.{Inequality}
@@ -70,7 +70,7 @@ holds f n l x0 x1 e h =
 -- ---- the program
 
 abbrev gain : CodeNumbers → ℤ
-gain n = signed n.negative n.coefficient *ℤ pos (2 ^ n.left)
+gain n = n.coefficient *ℤ pos (2 ^ n.left)
 
 -- the sum of the row at an input word, and the word that it is floored to
 abbrev sum : CodeNumbers → ℤ → ℤ

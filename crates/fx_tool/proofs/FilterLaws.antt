@@ -12,10 +12,10 @@ use Rattle.fx_nums.specs.Fraction.{Fraction}
 use Rattle.fx_nums.specs.Whole.{begins_with_digit}
 use Rattle.fx_tool.specs.ConstantFilter.{ConstantFilter, FilterNumbers, FilterNumbersFit, IsWidth, constant_filter, filter_text}
 use Rattle.fx_tool.specs.FilterReading.{FilterLaw, IsConstantFilterText, accumulator_in, coefficient_in, filter_in, input_in, is_accumulator, output_in, width_in}
-use Rattle.fx_tool.specs.Numeral.{IsPlain, Numeral, after_text, numeral_text, numeral_value}
+use Rattle.fx_tool.specs.Numeral.{IsPlain, Numeral, PlainLaw, numeral_text, numeral_value}
 use Rattle.fx_tool.specs.NumeralReading.{numeral_in, unsigned_in}
 use Rattle.fx_tool.specs.Text.{◌>>=◌, numbered_in, text_in}
-use Rattle.fx_tool.proofs.NumeralLaws.{UnsignedStands, numeral_again, numeral_stands, unsigned_again, unsigned_stands}
+use Rattle.fx_tool.proofs.NumeralLaws.{SignedStands, numeral_again, numeral_stands, unsigned_again, unsigned_stands}
 use Rattle.fx_tool.proofs.TextLaws.{bind_some, numbered_stands, numbered_again, text_stands}
 
 behind : (bytes front rest more : List ℕ) → bytes ≡ front ++ rest → rest ≡ more → bytes ≡ front ++ more
@@ -44,9 +44,9 @@ coefficient_stands bytes p e =
       value = n.value;
     }
 
-coefficient_again : (n : Numeral) (rest : List ℕ) → IsPlain n → coefficient_in (codes "form = \"tf\"\nb = [\"" ++ (numeral_text n ++ (34 ∷ rest))) ≡ Some (numeral_value n, 34 ∷ rest)
+coefficient_again : PlainLaw → (n : Numeral) (rest : List ℕ) → IsPlain n → coefficient_in (codes "form = \"tf\"\nb = [\"" ++ (numeral_text n ++ (34 ∷ rest))) ≡ Some (numeral_value n, 34 ∷ rest)
 unfolding coefficient_in
-coefficient_again n rest h = numeral_again n rest h
+coefficient_again plain_law n rest h = numeral_again plain_law n rest h
 
 -- ---- a width
 
@@ -122,19 +122,19 @@ abbrev with_error : ℕ → Fraction × List ℕ → Option (ℕ × Fraction × 
 with_error w error = Some (w, error.0, error.1)
 
 abbrev at_error : ℕ → List ℕ → Option (ℕ × Fraction × List ℕ)
-at_error w rest = unsigned_in false rest >>= with_error w
+at_error w rest = unsigned_in rest >>= with_error w
 
 abbrev after_output : ℕ × List ℕ → Option (ℕ × Fraction × List ℕ)
 after_output w = text_in (codes ", error = \"") w.1 >>= at_error w.0
 
-output_joined : (bytes r1 r2 r3 : List ℕ) (w : ℕ) (v : Fraction) → WidthStands (codes " }]\noutputs = [{ width = ") bytes w r1 → r1 ≡ codes ", error = \"" ++ r2 → UnsignedStands false r2 v r3 → OutputStands bytes w v r3
+output_joined : (bytes r1 r2 r3 : List ℕ) (w : ℕ) (v : Fraction) → WidthStands (codes " }]\noutputs = [{ width = ") bytes w r1 → r1 ≡ codes ", error = \"" ++ r2 → SignedStands false r2 v r3 → OutputStands bytes w v r3
 output_joined bytes r1 r2 r3 w v x found n = record {
-  numeral = n.numeral;
-  plain = n.plain;
+  numeral = n.found.numeral;
+  plain = n.found.plain;
   sign = n.sign;
-  stands = rw (x.stands, found, n.stands, n.sign) refl;
+  stands = rw (x.stands, found, n.found.stands) refl;
   width = x.width;
-  value = n.value;
+  value = n.found.value;
 }
 
 output_stands : (bytes : List ℕ) (p : ℕ × Fraction × List ℕ) → output_in bytes ≡ Some p → OutputStands bytes p.0 p.1 p.2
@@ -142,20 +142,17 @@ unfolding output_in
 output_stands bytes p e =
     let (w, w_read, more) = bind_some (width_in (codes " }]\noutputs = [{ width = ") bytes) after_output p e in
     let (middle, found, more2) = bind_some (text_in (codes ", error = \"") w.1) (at_error w.0) p more in
-    let (error, error_read, last) = bind_some (unsigned_in false middle) (with_error w.0) p more2 in
+    let (error, error_read, last) = bind_some (unsigned_in middle) (with_error w.0) p more2 in
     let x = width_stands (codes " }]\noutputs = [{ width = ") bytes w w_read in
-    let n = unsigned_stands false middle error error_read in
+    let n = unsigned_stands middle error error_read in
     subst (λ (t : ℕ × Fraction × List ℕ). OutputStands bytes t.0 t.1 t.2) (same_Some (w.0, error.0, error.1) p last)
     (output_joined bytes w.1 middle error.1 w.0 error.0 x (text_stands (codes ", error = \"") w.1 middle found) n)
 
-output_again : (w : ℕ) (n : Numeral) (rest : List ℕ) → IsWidth w → IsPlain n → n.negative ≡ false
+output_again : PlainLaw → (w : ℕ) (n : Numeral) (rest : List ℕ) → IsWidth w → IsPlain n → n.negative ≡ false
     → output_in (codes " }]\noutputs = [{ width = " ++ (decimal w ++ (codes ", error = \"" ++ (numeral_text n ++ (34 ∷ rest))))) ≡ Some (w, numeral_value n, 34 ∷ rest)
 unfolding output_in
-output_again w n rest width plain sign =
-    let text = (n.whole ++ after_text n.after) ++ (34 ∷ rest) in
-    let same : numeral_text n ++ (34 ∷ rest) ≡ text = rw sign refl in
-    let error : unsigned_in false text ≡ Some (numeral_value n, 34 ∷ rest) = subst (λ (b : Bool). unsigned_in b text ≡ Some (numeral_value n, 34 ∷ rest)) sign (unsigned_again n rest plain) in
-    rw (width_again (codes " }]\noutputs = [{ width = ") w (codes ", error = \"" ++ (numeral_text n ++ (34 ∷ rest))) width refl, ap (unsigned_in false) same ∙ error) refl
+output_again plain_law w n rest width plain sign =
+    rw (width_again (codes " }]\noutputs = [{ width = ") w (codes ", error = \"" ++ (numeral_text n ++ (34 ∷ rest))) width refl, unsigned_again plain_law n rest plain sign) refl
 
 -- ---- the accumulator
 
@@ -218,7 +215,7 @@ joined bytes r1 r2 r3 v e w b o a x y z last = record {
   meaning = rw (x.value, z.value) refl;
 }
 
-filter_stands : (bytes : List ℕ) (f : ConstantFilter) → filter_in bytes ≡ Some f → IsConstantFilterText bytes f
+pub filter_stands : (bytes : List ℕ) (f : ConstantFilter) → filter_in bytes ≡ Some f → IsConstantFilterText bytes f
 unfolding filter_in
 filter_stands bytes f given =
     let (c, c_read, more) = bind_some (coefficient_in bytes) behind_coefficient f given in
@@ -229,20 +226,20 @@ filter_stands bytes f given =
     subst (IsConstantFilterText bytes) same
     (joined bytes c.1 i.2 o.2 c.0 o.1 i.0 i.1 o.0 a (coefficient_stands bytes c c_read) (input_stands c.1 i i_read) (output_stands i.2 o o_read) (accumulator_stands o.0 o.2 a a_read))
 
-text_read : (n : FilterNumbers) → FilterNumbersFit n → filter_in (filter_text n) ≡ Some (constant_filter n)
+text_read : PlainLaw → (n : FilterNumbers) → FilterNumbersFit n → filter_in (filter_text n) ≡ Some (constant_filter n)
 unfolding filter_in
-text_read n h =
+text_read plain_law n h =
     let last = codes "\" }]\naccumulator = " ++ (decimal n.accumulator ++ codes "\n") in
     let output = codes " }]\noutputs = [{ width = " ++ (decimal n.output_width ++ (codes ", error = \"" ++ (numeral_text n.error ++ last))) in
     let input = codes "\"]\na = [\"1\"]\ninputs = [{ width = " ++ (decimal n.input_width ++ (codes ", bound = " ++ (decimal n.bound ++ output))) in
-    let x : coefficient_in (filter_text n) ≡ Some (numeral_value n.coefficient, input) = coefficient_again n.coefficient _ h.coefficient in
+    let x : coefficient_in (filter_text n) ≡ Some (numeral_value n.coefficient, input) = coefficient_again plain_law n.coefficient _ h.coefficient in
     let y : input_in input ≡ Some (n.input_width, n.bound, output) = input_again n.input_width n.bound output h.input_width h.bound refl in
-    let z : output_in output ≡ Some (n.output_width, numeral_value n.error, last) = output_again n.output_width n.error _ h.output_width h.error h.error_sign in
+    let z : output_in output ≡ Some (n.output_width, numeral_value n.error, last) = output_again plain_law n.output_width n.error _ h.output_width h.error h.error_sign in
     let a = accumulator_again n.output_width n.accumulator h.accumulator h.output_fits in
     rw (x, y, z, a) refl
 
-filter_again : (bytes : List ℕ) (f : ConstantFilter) → IsConstantFilterText bytes f → filter_in bytes ≡ Some f
-filter_again bytes f h = ap filter_in h.text ∙ text_read h.numbers h.fit ∙ ap (λ (d : ConstantFilter). Some d) (sym h.meaning)
+filter_again : PlainLaw → (bytes : List ℕ) (f : ConstantFilter) → IsConstantFilterText bytes f → filter_in bytes ≡ Some f
+filter_again plain_law bytes f h = ap filter_in h.text ∙ text_read plain_law h.numbers h.fit ∙ ap (λ (d : ConstantFilter). Some d) (sym h.meaning)
 
-pub filter_law : FilterLaw
-filter_law bytes f = (filter_stands bytes f, filter_again bytes f)
+pub filter_law : PlainLaw → FilterLaw
+filter_law plain_law bytes f = (filter_stands bytes f, filter_again plain_law bytes f)

@@ -1,32 +1,39 @@
 -- Status 0 is the answer only where the three files read and all inequalities hold; then the headline follows.
-use Rattle.std.proofs.Common.{◌≡◌, inl, inr, ◌∙◌, ℕ, zero, suc, ◌<◌, ◌==◌, ◌||◌, not, min, Bool, true, false, List, length, codes, Option, Some, None, IsSomeAnd, refl, sym, ap, subst, arith, nat_le, cond}
+use Rattle.std.proofs.Common.{◌≡◌, inl, inr, ◌∙◌, ℕ, zero, suc, ◌<◌, ◌==◌, ◌||◌, not, min, Bool, true, false, List, length, codes, Option, Some, None, IsSomeAnd, Result, Ok, Err, refl, sym, ap, subst, arith, nat_le, cond}
 use Rattle.std.specs.FinMap.{get}
 use Rattle.fx_io.specs.Shelf.{Files}
+use Rattle.fx_files.specs.Reading.{filter_of_bytes}
+use Rattle.fx_files.specs.Specification.{Specification}
+use Rattle.fx_files.specs.declared.fault.FilterFault.{FilterFault}
+use Rattle.fx_text.specs.Reading as general
+use Rattle.fx_text.specs.declared.fault.CodeFault.{CodeFault}
+use Rattle.fx_sim.specs.Simulation.{simulation}
+use Rattle.fx_sim.specs.declared.fault.SampleFault.{SampleFault}
+use Rattle.fx_lines.specs.Filter.{filter_lines}
 use Rattle.fx_code.specs.Code.{Code}
 use Rattle.fx_tool.specs.Certificate.{Certificate, IsCertificateText}
 use Rattle.fx_tool.specs.Claim.{certificate_in}
-use Rattle.fx_tool.specs.Command.{Operands, operands_of}
+use Rattle.fx_tool.specs.Command.{Operands, Command, Check, Show, Simulate, command_of}
 use Rattle.fx_tool.specs.ConstantFilter.{ConstantFilter, filter_of, IsFilterText}
-use Rattle.fx_tool.specs.ConstantCode.{CodeNumbers, code_of, IsCodeText}
+use Rattle.fx_tool.specs.ConstantCode.{CodeNumbers, code_of}
 use Rattle.fx_tool.specs.CodeReading.{code_in}
 use Rattle.fx_tool.specs.FilterReading.{filter_in}
 use Rattle.fx_tool.specs.Inequalities.{first_refusal}
-use Rattle.fx_tool.specs.Answer.{Answer, by_content, with_file, when_built, built, judged, cert_answer, code_answer, check_answer, command_answer, answer_of}
-use Rattle.fx_tool.specs.Clauses.{WhereTold, Gives, Headline, DoneClaims}
+use Rattle.fx_tool.specs.Answer.{Answer, says, by_content, with_file, when_built, built, judged, cert_answer, code_answer, check_answer, file_limit, samples_limit, when_short, shown, show_answer, run_answer, samples_answer, when_code, simulate_answer, command_answer, answer_of}
+use Rattle.fx_tool.specs.Clauses.{WhereTold, Gives, Headline, Shows, Simulates, CommandDone, DoneClaims}
 use Rattle.fx_tool.specs.Printed.{accepted_text}
 use Rattle.fx_tool.specs.Sound.{IsSound}
 use Rattle.fx_tool.specs.Writing.{GrowsBy}
 use Rattle.fx_tool.specs.declared.inequality.Refusal.{Refusal}
 use Rattle.fx_tool.specs.declared.status.Status.{Status}
-use Rattle.fx_tool.specs.declared.status.Status.TheVariants.{Done, NotBuiltYet}
-use Rattle.fx_code.specs.Limits.{fault_if, is_outside}
-use Rattle.fx_code.specs.declared.fault.ProgramFault.{ProgramFault}
+use Rattle.fx_tool.specs.declared.status.Status.TheVariants.{Done, TooLong, NotBuiltYet}
+use Rattle.fx_code.specs.Fits.{CodeFits}
+use Rattle.fx_text.specs.Grammar.{Spells}
 use Rattle.fx_tool.specs.Claim.{certificate_with}
-use Rattle.fx_tool.specs.ConstantCode.{CodeNumbersFit}
 use Rattle.fx_tool.proofs.ClaimLaws.{certificate_law, two_items, one_item, with_items}
 use Rattle.fx_tool.proofs.ConstantSound.{sound}
-use Rattle.fx_tool.proofs.CodeLaws.{code_law}
-use Rattle.fx_tool.proofs.FilterLaws.{filter_law}
+use Rattle.fx_tool.proofs.CodeLaws.{code_law, have_bits}
+use Rattle.fx_tool.proofs.FilterLaws.{filter_stands}
 
 -- ---- where the answer is 0, each file is there and read, and nothing is refused
 
@@ -98,34 +105,18 @@ check_done files o h =
 -- what is read of a file is what its text means
 filter_reads : (bytes : List ℕ) (f : ConstantFilter) → filter_in bytes ≡ Some f → IsFilterText bytes (filter_of f)
 filter_reads bytes f h =
-    let t = (filter_law bytes f).0 h in
+    let t = filter_stands bytes f h in
     record { numbers = t.numbers; fit = t.fit; text = t.text; meaning = ap filter_of t.meaning }
-
--- ---- the numbers of a program are above 0
-
-listed_some : (a : ℕ) (fault : ProgramFault) (rest : Option ProgramFault) → fault_if (not (a == 16 || (a == 32 || a == 64))) fault rest ≡ None → 0 < a
-listed_some zero fault rest h = cc
-listed_some (suc a) fault rest h = omega arith
-
-accumulator_some : (n : CodeNumbers) → CodeNumbersFit n → 0 < n.accumulator
-accumulator_some n h = listed_some n.accumulator _ _ h.start
-
-inside_some : (w high : ℕ) (fault : ProgramFault) (rest : Option ProgramFault) → fault_if (is_outside 2 high w) fault rest ≡ None → 0 < w
-inside_some zero high fault rest h = cc
-inside_some (suc w) high fault rest h = omega arith
-
-width_some : (n : CodeNumbers) → CodeNumbersFit n → 0 < n.width
-width_some n h = inside_some n.width (min 32 n.accumulator) _ _ h.row
 
 -- ---- the headline
 
-sound_for : (f : ConstantFilter) (n : CodeNumbers) (c : Certificate) → CodeNumbersFit n → length c.bounds ≡ 2 → length c.errors ≡ 1 → first_refusal f (code_of n) c ≡ None → IsSound (filter_of f) (code_of n) c.errors
+sound_for : (f : ConstantFilter) (n : CodeNumbers) (c : Certificate) → CodeFits (code_of n) → length c.bounds ≡ 2 → length c.errors ≡ 1 → first_refusal f (code_of n) c ≡ None → IsSound (filter_of f) (code_of n) c.errors
 sound_for f n c fit two one passes =
     let (a, b, bounds) = two_items c.bounds two in
     let (e, errors) = one_item c.errors one in
     let same : c ≡ certificate_with c.length a b e = with_items c.length c.bounds c.errors a b e bounds errors in
     let passed : first_refusal f (code_of n) (certificate_with c.length a b e) ≡ None = subst (λ (d : Certificate). first_refusal f (code_of n) d ≡ None) same passes in
-    subst (λ (es : List ℕ). IsSound (filter_of f) (code_of n) es) (sym errors) (sound f n c.length a b e (accumulator_some n fit) (width_some n fit) passed)
+    subst (λ (es : List ℕ). IsSound (filter_of f) (code_of n) es) (sym errors) (sound f n c.length a b e (have_bits n fit).0 (have_bits n fit).1 passed)
 
 there : (o : Option (List ℕ)) (bytes : List ℕ) (P : List ℕ → Type 0) → o ≡ Some bytes → P bytes → IsSomeAnd o P
 there o bytes P e h = rw e h
@@ -137,17 +128,76 @@ headline files o before after d grows =
     let c = d.cert.x in
     let code = (code_law d.code.bytes p).0 d.code.read in
     let cert = (certificate_law d.cert.bytes c).0 d.cert.read in
+    let fits : CodeFits (code_of code.numbers) = subst (λ (p : Code). CodeFits p) code.meaning code.spells.fits in
     let passes : first_refusal f (code_of code.numbers) c ≡ None = subst (λ (p : Code). first_refusal f p c ≡ None) code.meaning d.passes in
-    let is_sound : IsSound (filter_of f) p c.errors = subst (λ (p : Code). IsSound (filter_of f) p c.errors) (sym code.meaning) (sound_for f code.numbers c code.fit cert.1 cert.2 passes) in
+    let is_sound : IsSound (filter_of f) p c.errors = subst (λ (p : Code). IsSound (filter_of f) p c.errors) (sym code.meaning) (sound_for f code.numbers c fits cert.1 cert.2 passes) in
     record {
       filter = filter_of f;
       program = p;
       certificate = c;
       filter_text = there (get files o.filter) d.filter.bytes (λ bytes. IsFilterText bytes (filter_of f)) d.filter.there (filter_reads d.filter.bytes f d.filter.read);
-      code_text = there (get files o.code) d.code.bytes (λ bytes. IsCodeText bytes p) d.code.there code;
+      code_text = there (get files o.code) d.code.bytes (λ bytes. Spells bytes p) d.code.there code.spells;
       certificate_text = there (get files o.cert) d.cert.bytes (λ bytes. IsCertificateText bytes c) d.cert.there cert.0;
       sound = is_sound;
       printed = subst (λ (t : List ℕ). GrowsBy t before after) d.text grows;
+    }
+
+-- ---- the other commands
+
+short_done : (limit : ℕ) (line : List ℕ) (next : List ℕ → Answer) (content : List ℕ) → (when_short limit line next content).status ≡ Done → when_short limit line next content ≡ next content
+short_done limit line next content h = go (nat_le (length content) limit) h
+  where
+    go : (b : Bool) → (cond b (next content) (says TooLong line)).status ≡ Done → cond b (next content) (says TooLong line) ≡ next content
+    go true h = refl
+    go false h = cc
+
+-- a file that is there and no longer than its limit
+record Whole (files : Files) (name : List ℕ) (limit : ℕ) (line : List ℕ) (next : List ℕ → Answer) : Type 0 where
+  bytes : List ℕ
+  there : get files name ≡ Some bytes
+  same : with_file files name (when_short limit line next) ≡ next bytes
+
+whole : (files : Files) (name : List ℕ) (limit : ℕ) (line : List ℕ) (next : List ℕ → Answer) → (with_file files name (when_short limit line next)).status ≡ Done → Whole files name limit line next
+whole files name limit line next h =
+    let (bytes, there, first) = content_done (get files name) (when_short limit line next) h in
+    record { bytes = bytes; there = there; same = first ∙ short_done limit line next bytes (along _ _ first h) }
+
+shown_done : (r : Result Specification FilterFault) → (shown r).status ≡ Done → (f : Specification) × (r ≡ Ok f) × ((shown r).text ≡ filter_lines f)
+shown_done (Ok f) h = (f, refl, refl)
+shown_done (Err fault) h = cc
+
+show_done : (files : Files) (name : List ℕ) (before after : Option (List ℕ)) → (show_answer files name).status ≡ Done → GrowsBy (show_answer files name).text before after → Shows files name before after
+show_done files name before after h grows =
+    let file = whole files name file_limit (codes "too long FILTER\n") (λ bytes. shown (filter_of_bytes bytes)) h in
+    let (f, read, text) = shown_done (filter_of_bytes file.bytes) (along _ _ file.same h) in
+    record {
+      filter = f;
+      read = there (get files name) file.bytes (λ bytes. filter_of_bytes bytes ≡ Ok f) file.there read;
+      printed = subst (λ (t : List ℕ). GrowsBy t before after) (ap (λ (a : Answer). a.text) file.same ∙ text) grows;
+    }
+
+code_done : (r : Result Code CodeFault) (next : Code → Answer) → (when_code r next).status ≡ Done → (p : Code) × (r ≡ Ok p) × (when_code r next ≡ next p)
+code_done (Ok p) next h = (p, refl, refl)
+code_done (Err fault) next h = cc
+
+run_done : (r : Result (List ℕ) SampleFault) → (run_answer r).status ≡ Done → (t : List ℕ) × (r ≡ Ok t) × ((run_answer r).text ≡ t)
+run_done (Ok t) h = (t, refl, refl)
+run_done (Err fault) h = cc
+
+simulate_done : (files : Files) (code samples : List ℕ) (before after : Option (List ℕ)) → (simulate_answer files code samples).status ≡ Done → GrowsBy (simulate_answer files code samples).text before after → Simulates files code samples before after
+simulate_done files code samples before after h grows =
+    let file = whole files code file_limit (codes "too long CODE\n") (λ bytes. when_code (general.code_in bytes) (samples_answer files samples)) h in
+    let h1 = along _ _ file.same h in
+    let (p, read, second) = code_done (general.code_in file.bytes) (samples_answer files samples) h1 in
+    let h2 = along _ _ second h1 in
+    let moments = whole files samples samples_limit (codes "too long SAMPLES\n") (λ bytes. run_answer (simulation p bytes)) h2 in
+    let (t, runs, text) = run_done (simulation p moments.bytes) (along _ _ moments.same h2) in
+    record {
+      program = p;
+      text = t;
+      read = there (get files code) file.bytes (λ bytes. general.code_in bytes ≡ Ok p) file.there read;
+      runs = there (get files samples) moments.bytes (λ bytes. simulation p bytes ≡ Ok t) moments.there runs;
+      printed = subst (λ (t : List ℕ). GrowsBy t before after) (ap (λ (a : Answer). a.text) (file.same ∙ second ∙ moments.same) ∙ text) grows;
     }
 
 -- a status 0 is the answer's
@@ -159,14 +209,19 @@ answered a before after h = elim h.which [
   | inr (inr (inr e)) ↦ cc
 ]
 
-command_headline : (o : Option Operands) (files : Files) (before after : Option (List ℕ)) → Gives (command_answer o files) Done before after → IsSomeAnd o (λ o. Headline files o before after)
-command_headline None files before after h = absurd (let e : NotBuiltYet ≡ Done = answered (command_answer None files) before after h in cc)
-command_headline (Some o) files before after h =
-    let done = answered (check_answer files o) before after h in
-    headline files o before after (check_done files o done) (h.whole (sym done))
+claims : (c : Command) (files : Files) (before after : Option (List ℕ)) → (command_answer (Some c) files).status ≡ Done → GrowsBy (command_answer (Some c) files).text before after → CommandDone files c before after
+claims (Check o) files before after h grows = headline files o before after (check_done files o h) grows
+claims (Show filter) files before after h grows = show_done files filter before after h grows
+claims (Simulate code samples) files before after h grows = simulate_done files code samples before after h grows
+
+command_done : (o : Option Command) (files : Files) (before after : Option (List ℕ)) → Gives (command_answer o files) Done before after → IsSomeAnd o (λ c. CommandDone files c before after)
+command_done None files before after h = absurd (let e : NotBuiltYet ≡ Done = answered (command_answer None files) before after h in cc)
+command_done (Some c) files before after h =
+    let done = answered (command_answer (Some c) files) before after h in
+    claims c files before after done (h.whole (sym done))
 
 pub done_claims : (words : List (List ℕ)) (told : Option Files) (status : Status) (before after : Option (List ℕ)) → status ≡ Done →
     WhereTold told (λ files. Gives (answer_of words files) status before after) → DoneClaims words told before after
 done_claims words None status before after e h = tt
 done_claims words (Some files) status before after e h =
-    command_headline (operands_of words) files before after (subst (λ (s : Status). Gives (answer_of words files) s before after) e h)
+    command_done (command_of words) files before after (subst (λ (s : Status). Gives (answer_of words files) s before after) e h)

@@ -3,11 +3,11 @@ pub mod ClaimLaws
 pub mod CodeLaws
 pub mod ConstantSound
 pub mod Deciding
-pub mod Digits
 pub mod FilterLaws
 pub mod Gains
 pub mod Headline
 pub mod NumeralLaws
+pub mod PlainLaws
 pub mod ReadSoFar
 pub mod TextLaws
 pub mod Texts

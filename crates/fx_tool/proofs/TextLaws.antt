@@ -1,5 +1,5 @@
 -- What is read behind fixed texts stands there, and what stands there is read.
-use Rattle.std.proofs.Common.{◌≡◌, ◌≤◌, ◌<◌, ◌^◌, ◌∙◌, ℕ, true, false, List, ◌++◌, decimal, drop, length, Option, Some, None, refl, ap}
+use Rattle.std.proofs.Common.{◌≡◌, ◌≤◌, ◌<◌, ◌^◌, ◌∙◌, ℕ, true, false, List, ◌++◌, codes, decimal, drop, length, Option, Some, None, refl, ap}
 use Rattle.std.proofs.lemmas.Bool.Decides.{Decides-eqb}
 use Rattle.std.proofs.lemmas.List.{drop_at}
 use Rattle.std.proofs.lemmas.Option.{cond_some}
@@ -8,7 +8,8 @@ use Rattle.std.specs.List.{starts_with}
 use Rattle.std.specs.Prelude.{nat_eq}
 use Rattle.fx_nums.specs.Whole.{begins_with_digit, whole_in}
 use Rattle.fx_nums.proofs.WholeLaws.{stands_there, whole_in-decimal}
-use Rattle.fx_tool.specs.Text.{◌>>=◌, numbered_in, text_in}
+use Rattle.fx_decimal.specs.Printed.{minus_text}
+use Rattle.fx_tool.specs.Text.{◌>>=◌, numbered_in, sign_in, sign_or, text_in}
 
 pub bind_some : {A B : Type 0} (o : Option A) (f : A → Option B) (y : B) → (o >>= f) ≡ Some y → (x : A) × (o ≡ Some x) × (f x ≡ Some y)
 bind_some (Some x) f y e = (x, refl, e)
@@ -42,3 +43,13 @@ numbered_stands text limit bytes p wide e =
 pub numbered_again : (text : List ℕ) (limit n : ℕ) (rest : List ℕ) → limit ≤ 2 ^ 128 → n < limit → begins_with_digit rest ≡ false → numbered_in text limit (text ++ (decimal n ++ rest)) ≡ Some (n, rest)
 unfolding numbered_in
 numbered_again text limit n rest wide fits h = rw (text_again text (decimal n ++ rest)) (whole_in-decimal limit n rest wide fits h)
+
+-- ---- a sign
+
+sign_or_stands : (bytes : List ℕ) (o : Option (List ℕ)) → text_in (codes "-") bytes ≡ o → bytes ≡ minus_text (sign_or bytes o).0 ++ (sign_or bytes o).1
+sign_or_stands bytes (Some rest) e = text_stands (codes "-") bytes rest e
+sign_or_stands bytes None e = refl
+
+pub sign_stands : (bytes : List ℕ) → bytes ≡ minus_text (sign_in bytes).0 ++ (sign_in bytes).1
+unfolding sign_in
+sign_stands bytes = sign_or_stands bytes (text_in (codes "-") bytes) refl

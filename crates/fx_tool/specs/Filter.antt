@@ -1,5 +1,5 @@
 -- What a filter file asks for, and which inputs it admits.
-use Rattle.std.specs.Prelude.{ℕ, ℤ, pos, ◌≤ℤ◌, unsigned_abs, List, [], slice_index_or}
+use Rattle.std.specs.Prelude.{ℕ, ℤ, pos, ◌≤ℤ◌, unsigned_abs, List}
 use Rattle.std.specs.List.{AllZip, AllByRecursion}
 use Rattle.fx_nums.specs.Fraction.{Fraction}
 use Rattle.fx_eqs.specs.Equations.{Equations}
@@ -25,10 +25,6 @@ pub record Filter : Type 0 where
   pub outputs : List OutputFormat
   pub accumulator : ℕ
   pub equations : Equations
-
--- an input list is a list of moments, each with one word per input; its word of input j at moment k, or 0 outside
-abbrev pub word_at : List (List ℤ) → ℕ → ℕ → ℤ
-word_at list k j = slice_index_or (slice_index_or list k []) j (pos 0)
 
 -- one word per input, each within its bound
 abbrev pub IsAdmissibleMoment : Filter → List ℤ → Type 0

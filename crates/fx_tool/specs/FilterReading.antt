@@ -1,5 +1,5 @@
 -- How files of filters of one coefficient are read.
-use Rattle.std.specs.Prelude.{◌≡◌, ◌↔◌, ◌^◌, ◌-◌, ℕ, ◌==◌, ◌&&◌, ◌||◌, nat_le, nat_lt, Bool, false, List, codes, Option, Some, None, if◌then◌else◌}
+use Rattle.std.specs.Prelude.{◌≡◌, ◌↔◌, ◌^◌, ◌-◌, ℕ, ◌==◌, ◌&&◌, ◌||◌, nat_le, nat_lt, Bool, List, codes, Option, Some, None, if◌then◌else◌}
 use Rattle.std.specs.Str.{bytes_eq}
 use Rattle.fx_nums.specs.Fraction.{Fraction}
 use Rattle.fx_tool.specs.ConstantFilter.{ConstantFilter, FilterNumbers, FilterNumbersFit, constant_filter, filter_text}
@@ -30,7 +30,7 @@ unfoldable pub output_in : List ℕ → Option (ℕ × Fraction × List ℕ)
 output_in bytes = do
   width ← width_in (codes " }]\noutputs = [{ width = ") bytes
   rest ← text_in (codes ", error = \"") width.1
-  error ← unsigned_in false rest
+  error ← unsigned_in rest
   Some (width.0, error.0, error.1)
 
 -- accumulators have 16, 32 or 64 bits

@@ -1,5 +1,5 @@
 -- The inequalities that a certificate has to meet, for a filter of one coefficient and a program of one term.
-use Rattle.std.specs.Prelude.{ℕ, zero, suc, ◌+◌, ◌-◌, ◌*◌, ◌^◌, ◌==◌, nat_lt, nat_le, Bool, true, false, ℤ, pos, List, [], ◌∷◌, slice_index, unsigned_abs, Option, Some, None, Result, Ok, Err}
+use Rattle.std.specs.Prelude.{ℕ, zero, suc, ◌+◌, ◌-◌, ◌*◌, ◌^◌, ◌==◌, nat_lt, nat_le, Bool, true, false, ℤ, pos, List, [], ◌∷◌, slice_index, int_le, unsigned_abs, Option, Some, None, Result, Ok, Err}
 use Rattle.fx_nums.specs.Fraction.{den_value}
 use Rattle.fx_nums.specs.Interval.{Interval, enclosure, plus, opposite, magnitude}
 use Rattle.fx_code.specs.declared.term.CodeTerm.{CodeTerm}
@@ -61,7 +61,11 @@ below which left right = unless (nat_lt left right) which left right
 abbrev pub at_most : Inequality → ℕ → ℕ → Option Refusal → Option Refusal
 at_most which left right = unless (nat_le left right) which left right
 
--- The first inequality that fails, with both sides. The wanted error of a filter is at least 0, and so is its target.
+-- a number against one that may be negative; a refusal tells the magnitude of the latter
+abbrev pub at_most_signed : Inequality → ℕ → ℤ → Option Refusal → Option Refusal
+at_most_signed which left right = unless (int_le (pos left) right) which left (unsigned_abs right)
+
+-- the first inequality that fails, with both sides
 abbrev pub first_refusal : ConstantFilter → Code → Certificate → Option Refusal
 first_refusal f p c =
     let row = row_at p 0 in
@@ -77,7 +81,7 @@ first_refusal f p c =
     at_most (Word 0) x0 (2 ^ (row.width - 1) - 1) (
     at_most (Sum 0) (2 ^ row.shift * (x0 + 1)) (2 ^ (p.accumulator - 1)) (
     at_most (Error 0) (difference_total f p) e (
-    at_most (Wanted 0) e (unsigned_abs (target_of f.error)) None)))))))))
+    at_most_signed (Wanted 0) e (target_of f.error) None)))))))))
 
 -- the refusal that an answer tells
 abbrev pub refusal_told : {X : Type 0} → Result X Refusal → Option Refusal

@@ -7,12 +7,12 @@ pub mod Command
 pub mod ConstantCode
 pub mod ConstantFilter
 pub mod ConstantLaw
+pub mod Ending
 pub mod Filter
 pub mod FilterReading
 pub mod Inequalities
 pub mod Numeral
 pub mod NumeralReading
-pub mod Outcome
 pub mod Printed
 pub mod Reading
 pub mod Sound

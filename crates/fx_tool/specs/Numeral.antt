@@ -1,39 +1,47 @@
 -- Plain decimal numerals, and the fractions that they mean.
-use Rattle.std.specs.Prelude.{ℕ, ◌≤◌, Bool, if◌then◌else◌, List, [], ◌∷◌, ◌++◌, length}
+use Rattle.std.specs.Prelude.{◌≡◌, ℕ, ◌≤◌, pos, Bool, List, ◌++◌, length, Option, Some, None, Result, Ok, Err, ⊤}
 use Rattle.std.specs.List.{AllByRecursion}
 use Rattle.fx_nums.specs.Fraction.{Fraction}
 use Rattle.fx_nums.specs.declared.fraction.Den.TheVariants.{Ten}
-pub use Rattle.fx_decimal.specs.Numeral.{IsDigit, number_from, signed}
-pub use Rattle.fx_decimal.specs.Printed.{lowest}
+use Rattle.fx_decimal.specs.Faults.{numeral}
+use Rattle.fx_decimal.specs.Numeral.{IsDigit, after_text}
+use Rattle.fx_decimal.specs.Printed.{minus_text}
+use Rattle.fx_decimal.specs.declared.fault.DecimalFault.{DecimalFault}
 
--- a sign, the digits before the point, and those after it, as characters
+-- whether a minus stands first, the digits before a point, and those behind it where there is one
 pub record Numeral : Type 0 where
   pub negative : Bool
   pub whole : List ℕ
-  pub after : List ℕ
-
--- `-` or nothing
-abbrev pub sign_text : Bool → List ℕ
-sign_text negative = if negative then 45 ∷ [] else []
-
--- a point stands only before digits
-abbrev pub after_text : List ℕ → List ℕ
-after_text [] = []
-after_text (c ∷ cs) = 46 ∷ c ∷ cs
+  pub after : Option (List ℕ)
 
 abbrev pub numeral_text : Numeral → List ℕ
-numeral_text n = sign_text n.negative ++ (n.whole ++ after_text n.after)
+numeral_text n = minus_text n.negative ++ (n.whole ++ after_text n.after)
 
--- all digits as one whole number, over ten to the power of the count of those after the point, in lowest terms
-abbrev pub numeral_value : Numeral → Fraction
-numeral_value n =
-    let parts = lowest (number_from 0 (n.whole ++ n.after)) (length n.after) in
-    record { num = signed n.negative parts.0; den = Ten parts.1 }
+-- 1 to 6 digits
+pub record AreFewDigits (ds : List ℕ) : Type 0 where
+  pub some : 1 ≤ length ds
+  pub few : length ds ≤ 6
+  pub all : AllByRecursion IsDigit ds
 
--- 1 to 6 digits before the point, and up to 6 after it
+-- nothing, or 1 to 6 digits
+abbrev pub IsAfter : Option (List ℕ) → Type 0
+IsAfter None = ⊤
+IsAfter (Some ds) = AreFewDigits ds
+
+-- 1 to 6 digits, and behind a point 1 to 6 more
 pub record IsPlain (n : Numeral) : Type 0 where
-  pub whole_some : 1 ≤ length n.whole
-  pub whole_few : length n.whole ≤ 6
-  pub after_few : length n.after ≤ 6
-  pub whole_digits : AllByRecursion IsDigit n.whole
-  pub after_digits : AllByRecursion IsDigit n.after
+  pub whole : AreFewDigits n.whole
+  pub after : IsAfter n.after
+
+-- the fraction that a text means; a fault, which no plain numeral has, stands for 0
+abbrev pub fraction_or_zero : Result Fraction DecimalFault → Fraction
+fraction_or_zero (Ok value) = value
+fraction_or_zero (Err fault) = record { num = pos 0; den = Ten 0 }
+
+-- the fraction that its text means
+abbrev pub numeral_value : Numeral → Fraction
+numeral_value n = fraction_or_zero (numeral (numeral_text n))
+
+-- every plain numeral means a fraction
+abbrev pub PlainLaw : Type 0
+PlainLaw = (n : Numeral) → IsPlain n → numeral (numeral_text n) ≡ Ok (numeral_value n)

@@ -1,7 +1,9 @@
 -- What a read of a whole file says.
-use Rattle.std.specs.Prelude.{◌≡◌, ◌≤◌, ◌<◌, ◌+◌, ◌⊎◌, ℕ, min, List, [], take, length, Option, Some, None, IsSomeAnd, ⊤}
+use Rattle.std.specs.Prelude.{◌≡◌, ◌≤◌, ◌<◌, ◌+◌, ◌⊎◌, ℕ, Bool, min, List, [], take, length, Option, Some, None, Result, IsSomeAnd, ⊤}
 use Rattle.std.specs.FinMap.{get}
-use Rattle.fx_io.specs.Shelf.{Files}
+use Rattle.fx_io.specs.Causes.{HasCause}
+use Rattle.fx_io.specs.Shelf.{Files, KeepsNames}
+use Rattle.fx_io.specs.declared.shelf.IoFault.{IoFault}
 
 -- where files are told, the file is among them, and P holds of its content
 abbrev pub Has : Option Files → List ℕ → (List ℕ → Type 0) → Type 0
@@ -26,3 +28,12 @@ content_calls limit (Some content) = min (length content) (limit + 1) + 1
 abbrev pub read_calls : ℕ → Option Files → List ℕ → ℕ
 read_calls limit None name = limit + 2
 read_calls limit (Some files) name = content_calls limit (get files name)
+
+-- reads of a shelf: at most so many calls were made, a fault has a cause, and the files and all else are as before
+pub record OnlyReads {S T : Type 0} (files : S → Option Files) (read_faults place_faults calls : S → ℕ) (readable : S → List ℕ → Bool) (most : ℕ) (before now : S) (result : Result T IoFault) : Type 0 where
+  pub same_files : files now ≡ files before
+  pub cause : HasCause (read_faults before) (read_faults now) result
+  pub same_faults : place_faults now ≡ place_faults before
+  pub later : calls before ≤ calls now
+  pub few : calls now ≤ calls before + most
+  pub names : KeepsNames (readable before) (readable now)

@@ -1,11 +1,12 @@
 -- When a program does what a filter asks for, on all admissible inputs and for all time.
 use Rattle.std.specs.Prelude.{◌≡◌, ℕ, ◌+◌, ◌*◌, ◌^◌, ◌<◌, ◌≤◌, ℤ, pos, ◌*ℤ◌, ◌-ℤ◌, unsigned_abs, List, length, map, slice_index, slice_get, Some}
 use borrow.Author.Differences.{up, down}
+use Rattle.fx_code.specs.Inputs.{word_at}
 use Rattle.fx_code.specs.Code.{Code}
 use Rattle.fx_code.specs.Run.{output_word, IsExact}
 use Rattle.fx_eqs.specs.Denominator.{common}
 use Rattle.fx_eqs.specs.ExactRun.{exact_value}
-use Rattle.fx_tool.specs.Filter.{InputFormat, OutputFormat, Filter, word_at, IsAdmissible}
+use Rattle.fx_tool.specs.Filter.{InputFormat, OutputFormat, Filter, IsAdmissible}
 
 -- the word y differs from the value z / g, times 2 ^ b over 2 ^ a, by at most e / 2 ^ 64
 abbrev pub IsNear : ℤ → ℤ → ℕ → ℕ → ℕ → ℕ → Type 0

@@ -1,5 +1,5 @@
 -- The numbers of the statuses.
-use Rattle.std.specs.Prelude.{◌≡◌, ◌⊎◌, ℕ}
+use Rattle.std.specs.Prelude.{ℕ, Bool, true, false, ◌||◌, IsTrue}
 use Rattle.fx_tool.specs.declared.status.Status.{Status}
 use Rattle.fx_tool.specs.declared.status.Status.TheVariants.{Done, Refused, Usage, BadFilter, BadCode, BadCertificate, BadSamples, NoDesign, ReadFault, WriteFault, TooLong, Unbuildable, NoMemory, NotBuiltYet}
 
@@ -19,6 +19,24 @@ number_of Unbuildable = 11
 number_of NoMemory = 12
 number_of NotBuiltYet = 13
 
+-- the statuses that have a text of their own, of the commands that are built
+abbrev pub is_spoken : Status → Bool
+is_spoken Done = true
+is_spoken Refused = true
+is_spoken BadFilter = true
+is_spoken BadCode = true
+is_spoken BadSamples = true
+is_spoken TooLong = true
+is_spoken NotBuiltYet = true
+is_spoken _ = false
+
+-- the statuses after which nothing more is put
+abbrev pub is_fault : Status → Bool
+is_fault ReadFault = true
+is_fault WriteFault = true
+is_fault NoMemory = true
+is_fault _ = false
+
 -- the statuses of what is built
 abbrev pub IsBuiltStatus : Status → Type 0
-IsBuiltStatus s = (s ≡ Done) ⊎ ((s ≡ Refused) ⊎ ((s ≡ ReadFault) ⊎ ((s ≡ WriteFault) ⊎ ((s ≡ NoMemory) ⊎ (s ≡ NotBuiltYet)))))
+IsBuiltStatus s = IsTrue (is_spoken s || is_fault s)

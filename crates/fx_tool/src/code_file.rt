@@ -1,190 +1,93 @@
 //! Programs of one row with one term, as text.
 
-ghost use Rattle.std.specs.Prelude.{◌≡◌, ◌≤◌, ◌<◌, ◌^◌, ◌==◌, false, is_none, IfOk, IfSome, drop, length, option_map};
-ghost use Rattle.fx_code.specs.Code.{constant_of};
-ghost use Rattle.fx_code.specs.Limits.{told};
-ghost use Rattle.fx_tool.specs.CodeReading.{CodeLaw, code_in, head_in, is_code_end, numbers_in, program_of, sign_in, tail_in, term_in};
-ghost use Rattle.fx_tool.specs.ConstantCode.{HasTerm};
-ghost use Rattle.fx_tool.specs.Numeral.{signed};
+ghost use Rattle.std.specs.Prelude.{◌≡◌, ◌==◌, not, IfOk, IfSome, unsigned_abs, filter};
+ghost use Rattle.fx_code.specs.Code.{IsWhole};
+ghost use Rattle.fx_tool.specs.CodeReading.{CodeLaw, code_in, constant_code, is_constant, is_one_term};
+ghost use Rattle.fx_tool.specs.ConstantCode.{HasTerm, coefficient_of, has_layout, without_minus};
 
-use crate::text::{numbered_at, text_at};
-use fx_code::{CodeTerm, Program, ProgramFault, Read};
-use fx_nums::whole_at;
+use fx_code::{CodeTerm, Program, Read};
+use fx_text::{CodeFault, read_code, write_code};
 use std::alloc::{AllocError, Global};
 
-/// The numbers of a program of one row with one term.
-#[derive(Clone, Copy, Debug, PartialEq, Eq)]
-pub struct CodeNumbers {
-    /// Bits of the accumulators.
-    pub accumulator: u8,
-    /// Bits of an input word.
-    pub input_width: u8,
-    /// Whether the coefficient has a `-` before it.
-    pub negative: bool,
-    /// The magnitude of the coefficient.
-    pub coefficient: u64,
-    /// The left shift of the term.
-    pub left: u8,
-    /// The right shift of the row.
-    pub shift: u8,
-    /// Bits of the row's word.
-    pub width: u8,
-}
-
-/// The bits of the accumulators and of the input at the front, and the place after them.
-#[tactic(auto, unfolding(crate::specs::CodeReading::head_in))]
-fn head_at(bytes: &[u8]) -> Option<(u8, u8, usize)>
-    ensures read { option_map (λ p. (p.0, p.1, drop p.2 bytes.now)) result ≡ head_in bytes.now }
-    ensures within { IfSome result (λ p. p.2 ≤ length bytes.now) }
+/// Whether there is one term, and it reads the first input.
+fn is_one_term(terms: &[CodeTerm]) -> bool
+    ensures { result ≡ is_one_term terms.now }
 {
-    let (accumulator, at) = numbered_at(bytes, 0, b"#include \"fixif.h\"\nSTEP(", 65)?;
-    let (input_width, at) = numbered_at(bytes, at, b", 1, 1, 1)\n{\n  IN(u0, ", 33)?;
-    Some((accumulator as u8, input_width as u8, at))
-}
-
-/// Whether a `-` stands at the place, and the place after it.
-#[tactic(auto, unfolding(crate::specs::CodeReading::sign_in))]
-fn sign_at(bytes: &[u8], at: usize) -> (bool, usize)
-    requires { at ≤ length bytes.now }
-    ensures read { (result.0, drop result.1 bytes.now) ≡ sign_in (drop at bytes.now) }
-    ensures within { result.1 ≤ length bytes.now }
-{
-    match text_at(bytes, at, b"-") {
-        Some(at) => (true, at),
-        None => (false, at),
+    match terms {
+        [term] => term.from == Read::In(0),
+        _ => false,
     }
 }
 
-/// The sign and the magnitude of the coefficient, below 2^62, its left shift, and the place after them.
-#[tactic(auto, unfolding(crate::specs::CodeReading::term_in))]
-fn term_at(bytes: &[u8], at: usize) -> Option<(bool, u64, u8, usize)>
-    requires { at ≤ length bytes.now }
-    ensures read { option_map (λ p. (p.0, p.1, p.2, drop p.3 bytes.now)) result ≡ term_in (drop at bytes.now) }
-    ensures within { IfSome result (λ p. (p.1 < 2 ^ 62) × (p.3 ≤ length bytes.now)) }
+/// Whether a program has one input, one row with one term and one output.
+fn is_constant(program: &Program) -> bool
+    ensures value { result ≡ is_constant program.now }
 {
-    let at = text_at(bytes, at, b";\n  a += MUL(")?;
-    let (negative, at) = sign_at(bytes, at);
-    let (magnitude, at) = whole_at(bytes, at, 1 << 62)?;
-    let (left, at) = numbered_at(bytes, at, b", u0, ", 63)?;
-    Some((negative, magnitude as u64, left as u8, at))
+    program.inputs() == 1
+        && program.rows() == 1
+        && is_one_term(program.terms(0))
+        && program.outputs() == [0].as_slice()
 }
 
-/// Whether the last text stands at this place, and nothing after it.
-#[tactic(auto, unfolding(crate::specs::CodeReading::is_code_end))]
-fn is_code_end(bytes: &[u8], at: usize) -> bool
-    requires { at ≤ length bytes.now }
-    ensures { result ≡ is_code_end (drop at bytes.now) }
+/// The bytes but for each `-`.
+fn without_minus(alloc: Global, bytes: &[u8]) -> Result<Vec<u8>, AllocError>
+    ensures { IfOk result (λ v. v.items ≡ without_minus bytes.now) }
 {
-    &bytes[at..] == b");\n  OUT(0, r0);\n  s0 = r0;\n}\n".as_slice()
+    let mut others = Vec::new(alloc);
+    for byte in bytes {
+        if *byte != b'-' {
+            others.push(*byte)?;
+        }
+    }
+    Ok(others)
 }
 
-/// The right shift and the bits of the row, from the place to the end.
-#[tactic(auto, unfolding(crate::specs::CodeReading::tail_in))]
-fn tail_at(bytes: &[u8], at: usize) -> Option<(u8, u8)>
-    requires { at ≤ length bytes.now }
-    ensures read { result ≡ tail_in (drop at bytes.now) }
-    ensures within { IfSome result (λ p. p.0 ≤ 62) }
+/// Whether the coefficient of the first term is 0.
+fn is_zero(terms: &[CodeTerm]) -> bool
+    ensures { result ≡ (unsigned_abs (coefficient_of terms.now) == 0) }
 {
-    let (shift, at) = numbered_at(bytes, at, b");\n  r0 = LOW(SAR(a, ", 63)?;
-    let (width, at) = numbered_at(bytes, at, b"), ", 33)?;
-    if is_code_end(bytes, at) {
-        Some((shift as u8, width as u8))
-    } else {
-        None
+    match terms {
+        [term, ..] => term.coef == 0,
+        [] => true,
     }
 }
 
-/// Half of the last place that a right shift drops.
-fn constant_of(shift: u8) -> u64
-    requires { shift ≤ 62 }
-    ensures { result ≡ constant_of shift }
+/// Whether the bytes are what is written for the program; a coefficient 0 may have a `-` before it.
+fn has_layout(alloc: Global, bytes: &[u8], program: &Program) -> Result<bool, AllocError>
+    requires whole { IsWhole program.now }
+    requires term { HasTerm program.now }
+    ensures { IfOk result (λ b. b ≡ has_layout bytes.now program.now) }
 {
-    match shift {
-        0 => 0,
-        shift => 1 << (shift - 1),
+    let text = write_code(alloc, program)?;
+    if bytes == text.as_slice() {
+        return Ok(true);
     }
-}
-
-/// Whether a constant is the one that this right shift demands.
-fn is_constant_of(constant: u128, shift: u8) -> bool
-    requires { shift ≤ 62 }
-    ensures { result ≡ (constant == constant_of shift) }
-{
-    constant == u128::from(constant_of(shift))
-}
-
-/// The numbers of the program that the bytes are the text of.
-#[tactic(auto, unfolding(crate::specs::CodeReading::numbers_in))]
-fn numbers_of(bytes: &[u8]) -> Option<CodeNumbers>
-    ensures read { result ≡ numbers_in bytes.now }
-    ensures within { IfSome result (λ n. n.coefficient < 2 ^ 62) }
-{
-    let (accumulator, input_width, at) = head_at(bytes)?;
-    let (constant, at) = numbered_at(bytes, at, b");\n  a = ", 1 << 62)?;
-    let (negative, coefficient, left, at) = term_at(bytes, at)?;
-    let (shift, width) = tail_at(bytes, at)?;
-    if !is_constant_of(constant, shift) {
-        return None;
+    if !is_zero(program.terms(0)) {
+        return Ok(false);
     }
-    Some(CodeNumbers {
-        accumulator,
-        input_width,
-        negative,
-        coefficient,
-        left,
-        shift,
-        width,
-    })
+    let plain = without_minus(alloc, bytes)?;
+    Ok(plain.as_slice() == text.as_slice())
 }
 
-/// A magnitude with its sign.
-fn signed(negative: bool, magnitude: u64) -> i64
-    requires { magnitude < 2 ^ 62 }
-    ensures { result ≡ signed negative magnitude }
-{
-    if negative {
-        -(magnitude as i64)
-    } else {
-        magnitude as i64
-    }
-}
-
-/// What a fault leaves of a program: none, or an error where memory was refused.
-fn refused(fault: ProgramFault) -> Result<Option<Program>, AllocError>
-    ensures { IfOk result (λ r. (r ≡ None) × (is_none (told fault) ≡ false)) }
-{
-    match fault {
-        ProgramFault::NoMemory => Err(AllocError),
-        _ => Ok(None),
-    }
-}
-
-/// The program of these numbers, if they meet the limits of programs.
-#[tactic(auto, unfolding(crate::specs::CodeReading::program_of))]
-fn program_of(alloc: Global, numbers: &CodeNumbers) -> Result<Option<Program>, AllocError>
-    requires { numbers.now.coefficient < 2 ^ 62 }
-    ensures value { IfOk result (λ r. r ≡ program_of numbers.now) }
+/// A program that was read, where it is one of one row with one term, in its layout.
+#[tactic(auto, unfolding(crate::specs::CodeReading::constant_code))]
+fn constant_code(
+    alloc: Global,
+    bytes: &[u8],
+    program: Program,
+) -> Result<Option<Program>, AllocError>
+    requires { IsWhole program }
+    ensures read { IfOk result (λ r. r ≡ constant_code bytes.now program) }
     ensures term { IfOk result (λ r. IfSome r (λ p. HasTerm p)) }
 {
-    let mut program = match Program::start(alloc, numbers.accumulator, &[numbers.input_width]) {
-        Ok(program) => program,
-        Err(fault) => return refused(fault),
-    };
-    let term = CodeTerm {
-        coef: signed(numbers.negative, numbers.coefficient),
-        from: Read::In(0),
-        left: numbers.left,
-    };
-    if let Err(fault) = program.add_row(numbers.width, numbers.shift, &[term]) {
-        return refused(fault);
+    if is_constant(&program) && has_layout(alloc, bytes, &program)? {
+        Ok(Some(program))
+    } else {
+        Ok(None)
     }
-    if let Err(fault) = program.add_output(0) {
-        return refused(fault);
-    }
-    Ok(Some(program))
 }
 
-/// The program whose text the bytes are, if they are one of one row with one term within the limits.
+/// The program whose text the bytes are, if they are one of one row with one term, in its layout.
 ///
 /// # Errors
 ///
@@ -194,16 +97,19 @@ pub fn read_code_file(alloc: Global, bytes: &[u8]) -> Result<Option<Program>, Al
     ensures read { IfOk result (λ r. r ≡ code_in bytes.now) }
     ensures term { IfOk result (λ r. IfSome r (λ p. HasTerm p)) }
 {
-    match numbers_of(bytes) {
-        Some(numbers) => program_of(alloc, &numbers),
-        None => Ok(None),
+    match read_code(alloc, bytes) {
+        Ok(program) => constant_code(alloc, bytes, program),
+        Err(CodeFault::NoMemory) => Err(AllocError),
+        Err(_) => Ok(None),
     }
 }
 
 /// The program that is read from bytes is the one whose text they are.
 pub fn code_is_read_exactly()
     ensures { CodeLaw }
-{}
+{
+    fx_text::code_is_read_exactly();
+}
 
 #[cfg(test)]
 mod tests {

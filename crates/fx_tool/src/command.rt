@@ -1,52 +1,32 @@
-ghost use Rattle.std.specs.Prelude.{◌≡◌, ◌≢◌, ◌≤◌, ◌+◌};
+ghost use Rattle.std.specs.Prelude.{◌≡◌, ◌≤◌, ◌+◌, IfOk};
 ghost use Rattle.fx_io.specs.Causes.{Rose};
-ghost use Rattle.fx_tool.specs.Answer.{answer_of, says};
+ghost use Rattle.fx_tool.specs.Answer.{answer_of};
 ghost use Rattle.fx_tool.specs.Clauses.{command_calls, DoneClaims, Gives, PlacesAnswer, WhereTold};
-ghost use Rattle.fx_tool.specs.Command.{CanRead, operands_of, texts};
-ghost use Rattle.fx_tool.specs.Outcome.{outcome_answer, OutcomeFits};
+ghost use Rattle.fx_tool.specs.Command.{CanRead, command_of, texts};
+ghost use Rattle.fx_tool.specs.Reading.{OnlyReads};
 ghost use Rattle.fx_tool.specs.Status.{IsBuiltStatus};
 
-use crate::decide::decide;
-use crate::outcome::Outcome;
-use crate::report::{accepted, not_built, refused};
+use crate::check::check;
+use crate::ending::{Ending, ended};
+use crate::show::show;
+use crate::simulate::simulate;
 use crate::status::Status;
-use crate::words::check_operands;
-use crate::writing::put_all;
+use crate::words::{Command, command_of};
 use fx_io::{IoFault, Shelf, Sink};
-use std::alloc::{AllocError, Global};
+use std::alloc::Global;
 
-// Ends with this status, once the text is put.
-fn finish<K: Sink>(out: &mut K, text: &[u8], status: Status) -> Status
-    requires not_written { status ≢ Status.WriteFault }
-    requires not_memory { status ≢ Status.NoMemory }
-    ensures gives { Gives (says status text.now) result (K.told out.old) (K.told out.new) }
-    ensures spoken { result ≡ Status.ReadFault → status ≡ Status.ReadFault }
-    ensures cause { result ≡ Status.WriteFault → Rose (K.faults out.old) (K.faults out.new) }
-{
-    match put_all(out, text) {
-        Ok(()) => status,
-        Err(IoFault::Failed) => Status::WriteFault,
-        Err(IoFault::NoMemory) => Status::NoMemory,
-    }
-}
+// Reads what the command of these words reads, and says how the run ends.
+fn ending<S: Shelf>(alloc: Global, words: &[String], shelf: &mut S) -> Result<Ending, IoFault>
+    requires { CanRead (S.readable shelf.old) (texts words.now) }
 
-// Puts the text of an outcome.
-fn tell<K: Sink>(alloc: Global, out: &mut K, outcome: &Outcome) -> Status
-    requires { OutcomeFits outcome.now }
-    ensures gives { Gives (outcome_answer outcome.now) result (K.told out.old) (K.told out.new) }
-    ensures spoken { result ≢ Status.ReadFault }
-    ensures cause { result ≡ Status.WriteFault → Rose (K.faults out.old) (K.faults out.new) }
+    ensures answer { IfOk result (λ e. WhereTold (S.files shelf.old) (λ files. answer_of (texts words.now) files ≡ e)) }
+    ensures shelf { OnlyReads S.files S.read_faults S.place_faults S.calls S.readable (command_calls (S.files shelf.old) (command_of (texts words.now))) shelf.old shelf.new result }
 {
-    match *outcome {
-        Outcome::Accepted(claim) => match accepted(alloc, claim.error) {
-            Ok(text) => finish(out, &text, Status::Done),
-            Err(AllocError) => Status::NoMemory,
-        },
-        Outcome::Refused(refusal) => match refused(alloc, &refusal) {
-            Ok(text) => finish(out, text.as_bytes(), Status::Refused),
-            Err(AllocError) => Status::NoMemory,
-        },
-        Outcome::NotBuilt(part) => finish(out, not_built(part).as_bytes(), Status::NotBuiltYet),
+    match command_of(words) {
+        Some(Command::Check(operands)) => check(alloc, &operands, shelf),
+        Some(Command::Show(filter)) => show(alloc, filter, shelf),
+        Some(Command::Simulate(code, samples)) => simulate(alloc, code, samples, shelf),
+        None => ended(Ending::line(alloc, Status::NotBuiltYet, "not built yet words\n")),
     }
 }
 
@@ -62,26 +42,24 @@ fn answer<S: Shelf, K: Sink>(alloc: Global, words: &[String], shelf: &mut S, out
     ensures files { S.files shelf.new ≡ S.files shelf.old }
     ensures place_faults { S.place_faults shelf.new ≡ S.place_faults shelf.old }
     ensures later { S.calls shelf.old ≤ S.calls shelf.new }
-    ensures calls { S.calls shelf.new ≤ S.calls shelf.old + command_calls (S.files shelf.old) (operands_of (texts words.now)) }
+    ensures calls { S.calls shelf.new ≤ S.calls shelf.old + command_calls (S.files shelf.old) (command_of (texts words.now)) }
 {
-    let Some(operands) = check_operands(words) else {
-        return finish(out, b"not built yet words\n", Status::NotBuiltYet);
-    };
-    match decide(alloc, &operands, shelf) {
-        Ok(outcome) => tell(alloc, out, &outcome),
+    match ending(alloc, words, shelf) {
+        Ok(ending) => ending.put(out),
         Err(IoFault::Failed) => Status::ReadFault,
         Err(IoFault::NoMemory) => Status::NoMemory,
     }
 }
 
-/// Runs a command line: the program's name, a command and its operands. It reads the files that the words name, judges
-/// them and puts a text; what it gives is the answer of the words and the files, unless a read, a write or memory fails.
+/// Runs a command line: the program's name, a command and its operands. It reads the files that the words name and puts
+/// a text; what it gives is the answer of the words and the files, unless a read, a write or memory fails.
 pub fn run<S: Shelf, K: Sink>(alloc: Global, words: &[String], shelf: &mut S, out: &mut K) -> Status
     requires { CanRead (S.readable shelf.old) (texts words.now) }
 
-    // For every list of input words within the file's bound, of any length, every row of the code that was read ends with
-    // the exact sum in its accumulator, every stored word lies in its format, and every output differs from the file's exact
-    // output by at most the certificate's error, which is the one printed.
+    // Of `check`: for every list of input words within the file's bound, of any length, every row of the code that was
+    // read ends with the exact sum in its accumulator, every stored word lies in its format, and every output differs from
+    // the file's exact output by at most the certificate's error, which is the one printed. Of the other commands: the
+    // files were read as what they stand for, and all of that was put.
     ensures done { result ≡ Status.Done → DoneClaims (texts words.now) (S.files shelf.old) (K.told out.old) (K.told out.new) }
 
     // The status is the answer's, or a read, a write or memory failed; with the answer's status its whole text was put and
@@ -96,7 +74,7 @@ pub fn run<S: Shelf, K: Sink>(alloc: Global, words: &[String], shelf: &mut S, ou
     ensures files { S.files shelf.new ≡ S.files shelf.old }
     ensures place_faults { S.place_faults shelf.new ≡ S.place_faults shelf.old }
     ensures later { S.calls shelf.old ≤ S.calls shelf.new }
-    ensures calls { S.calls shelf.new ≤ S.calls shelf.old + command_calls (S.files shelf.old) (operands_of (texts words.now)) }
+    ensures calls { S.calls shelf.new ≤ S.calls shelf.old + command_calls (S.files shelf.old) (command_of (texts words.now)) }
 {
     answer(alloc, words, shelf, out)
 }

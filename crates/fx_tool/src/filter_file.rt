@@ -5,7 +5,7 @@ ghost use Rattle.fx_tool.specs.ConstantFilter.{IsWidth};
 ghost use Rattle.fx_tool.specs.FilterReading.{FilterLaw, accumulator_in, coefficient_in, filter_in, input_in, output_in, width_in};
 
 use crate::constant::ConstantFilter;
-use crate::numeral::{numeral_at, unsigned_at};
+use crate::numeral::{numeral_at, plain_numerals_mean_fractions, unsigned_at};
 use crate::text::{numbered_at, text_at};
 use fx_nums::Frac;
 
@@ -55,7 +55,7 @@ fn output_at(bytes: &[u8], at: usize) -> Option<(u8, Frac, usize)>
 {
     let (width, at) = width_at(bytes, at, b" }]\noutputs = [{ width = ")?;
     let at = text_at(bytes, at, b", error = \"")?;
-    let (error, at) = unsigned_at(bytes, at, false)?;
+    let (error, at) = unsigned_at(bytes, at)?;
     Some((width, error, at))
 }
 
@@ -99,7 +99,9 @@ pub fn read_filter_file(bytes: &[u8]) -> Option<ConstantFilter>
 /// The filter that is read from bytes is the one whose file they are.
 pub fn filter_is_read_exactly()
     ensures { FilterLaw }
-{}
+{
+    plain_numerals_mean_fractions();
+}
 
 #[cfg(test)]
 mod tests {

@@ -1,4 +1,4 @@
-ghost use Rattle.std.specs.Prelude.{◌≡◌, ◌*◌, ◌<◌, ◌≤◌, ◌^◌, length, unsigned_abs, None};
+ghost use Rattle.std.specs.Prelude.{◌≡◌, ◌*◌, ◌<◌, ◌≤◌, ◌^◌, length, None};
 ghost use Rattle.fx_nums.specs.Interval.{magnitude};
 ghost use Rattle.fx_code.specs.Code.{row_at, weight};
 ghost use Rattle.fx_code.specs.Fits.{TermFits};
@@ -6,7 +6,7 @@ ghost use Rattle.fx_tool.specs.Claim.{certificate_of};
 ghost use Rattle.fx_tool.specs.Certificate.{CertificateFits};
 ghost use Rattle.fx_tool.specs.ConstantCode.{HasTerm};
 ghost use Rattle.fx_tool.specs.ConstantFilter.{target_of};
-ghost use Rattle.fx_tool.specs.Inequalities.{at_most, below, code_gain, code_total, difference_total, equal, filter_gain, filter_total, first_refusal, first_weight, gain_difference, half_step, refusal_told};
+ghost use Rattle.fx_tool.specs.Inequalities.{at_most, at_most_signed, below, code_gain, code_total, difference_total, equal, filter_gain, filter_total, first_refusal, first_weight, gain_difference, half_step, refusal_told};
 
 use crate::certificate::Claim;
 use crate::constant::ConstantFilter;
@@ -126,10 +126,20 @@ fn difference_total(f: &ConstantFilter, p: &Program) -> u128
     size_of(gain_difference(f, p)) * u128::from(f.bound) + half_step(p.shift(0))
 }
 
-fn target_of(f: &ConstantFilter) -> u128
-    ensures { result ≡ unsigned_abs (target_of f.now.error) }
+// Whether an error is at most the target of the wanted one.
+fn at_most_target(f: &ConstantFilter, error: u128) -> Result<(), Refusal>
+    requires { error < 2 ^ 96 }
+    ensures { refusal_told result ≡ at_most_signed (Inequality.Wanted 0) error (target_of f.now.error) None }
 {
-    Iv::of(f.error).lo().unsigned_abs()
+    let target = Iv::of(f.error).lo();
+    if error as i128 <= target {
+        return Ok(());
+    }
+    Err(Refusal {
+        which: Inequality::Wanted(0),
+        left: error,
+        right: target.unsigned_abs(),
+    })
 }
 
 /// Whether a certificate's numbers meet the inequalities.
@@ -160,5 +170,5 @@ pub fn judge(f: &ConstantFilter, p: &Program, claim: &Claim) -> Result<(), Refus
     at_most(Inequality::Word(0), code_bound, greatest_word)?;
     at_most(Inequality::Sum(0), greatest_sum, room)?;
     at_most(Inequality::Error(0), difference_total(f, p), claim.error)?;
-    at_most(Inequality::Wanted(0), claim.error, target_of(f))
+    at_most_target(f, claim.error)
 }

@@ -4,17 +4,19 @@
 ghost use Rattle.fx_tool.specs.ConstantLaw.{ConstantLaw};
 
 mod certificate;
+mod check;
 mod code_file;
 mod command;
 mod constant;
-mod decide;
+mod ending;
 mod filter_file;
 mod inequality;
 mod judge;
 mod numeral;
-mod outcome;
 mod reading;
 mod report;
+mod show;
+mod simulate;
 mod status;
 mod text;
 mod words;
@@ -26,6 +28,7 @@ pub use command::run;
 pub use constant::ConstantFilter;
 pub use filter_file::{filter_is_read_exactly, read_filter_file};
 pub use inequality::{Inequality, Refusal};
+pub use numeral::plain_numerals_mean_fractions;
 pub use status::Status;
 
 /// Where the inequalities hold, the program does what the filter asks for, on all admissible inputs and for all time.

@@ -3,13 +3,13 @@ ghost use Rattle.std.specs.Bool.{IsFalse};
 ghost use Rattle.fx_io.specs.Causes.{HasCause, CountsCall};
 ghost use Rattle.fx_io.specs.Shelf.{KeepsNames};
 ghost use Rattle.std.specs.Option.{option_map};
-ghost use Rattle.fx_tool.specs.Reading.{Has, SoFar, HoldsContent, read_calls};
+ghost use Rattle.fx_tool.specs.Reading.{Has, HoldsContent, OnlyReads, SoFar, read_calls};
 
 use fx_io::{IoFault, Shelf};
 use std::alloc::{AllocError, Global};
 
-/// The most bytes that a file may have.
-pub const LIMIT: usize = 4096;
+/// The most bytes that a file of a filter or of code may have.
+pub const FILE_LIMIT: usize = 1_048_576;
 
 // The most bytes that one read asks for.
 const PIECE: usize = 65_536;
@@ -33,11 +33,7 @@ fn read_piece<S: Shelf>(
     ensures no_shorter { length bytes.old.items ≤ length bytes.new.items }
     ensures within { length bytes.new.items ≤ limit + 1 }
 
-    ensures files { S.files shelf.new ≡ S.files shelf.old }
-    ensures cause { HasCause (S.read_faults shelf.old) (S.read_faults shelf.new) result }
-    ensures place_faults { S.place_faults shelf.new ≡ S.place_faults shelf.old }
-    ensures calls { CountsCall (S.calls shelf.old) (S.calls shelf.new) }
-    ensures readable { KeepsNames (S.readable shelf.old) (S.readable shelf.new) }
+    ensures shelf { OnlyReads S.files S.read_faults S.place_faults S.calls S.readable 1 shelf.old shelf.new result }
 {
     let room = (limit + 1 - bytes.len()).min(piece.len());
     let count = shelf.read_at(name, bytes.len() as u64, &mut piece[..room])?;
@@ -62,13 +58,7 @@ fn read_up_to<S: Shelf>(
 
     ensures content { IfOk result (λ bytes. Has (S.files shelf.old) name.now (λ content. bytes.items ≡ take (limit + 1) content)) }
     ensures within { IfOk result (λ bytes. length bytes.items ≤ limit + 1) }
-    ensures files { S.files shelf.new ≡ S.files shelf.old }
-
-    ensures cause { HasCause (S.read_faults shelf.old) (S.read_faults shelf.new) result }
-    ensures place_faults { S.place_faults shelf.new ≡ S.place_faults shelf.old }
-    ensures later { S.calls shelf.old ≤ S.calls shelf.new }
-    ensures calls { S.calls shelf.new ≤ S.calls shelf.old + read_calls limit (S.files shelf.old) name.now }
-    ensures readable { KeepsNames (S.readable shelf.old) (S.readable shelf.new) }
+    ensures shelf { OnlyReads S.files S.read_faults S.place_faults S.calls S.readable (read_calls limit (S.files shelf.old) name.now) shelf.old shelf.new result }
 {
     let Ok(mut piece) = vec![in alloc; 0; PIECE.min(limit + 1)] else {
         return Err(IoFault::NoMemory);
@@ -97,13 +87,7 @@ pub fn read_file<S: Shelf>(
     requires limit { limit < 2 ^ 32 }
 
     ensures content { IfOk result (λ r. Has (S.files shelf.old) name.now (HoldsContent limit (option_map (λ bytes. bytes.items) r))) }
-    ensures files { S.files shelf.new ≡ S.files shelf.old }
-
-    ensures cause { HasCause (S.read_faults shelf.old) (S.read_faults shelf.new) result }
-    ensures place_faults { S.place_faults shelf.new ≡ S.place_faults shelf.old }
-    ensures later { S.calls shelf.old ≤ S.calls shelf.new }
-    ensures calls { S.calls shelf.new ≤ S.calls shelf.old + read_calls limit (S.files shelf.old) name.now }
-    ensures readable { KeepsNames (S.readable shelf.old) (S.readable shelf.new) }
+    ensures shelf { OnlyReads S.files S.read_faults S.place_faults S.calls S.readable (read_calls limit (S.files shelf.old) name.now) shelf.old shelf.new result }
 {
     let bytes = read_up_to(alloc, shelf, name, limit)?;
     Ok(if bytes.len() <= limit {

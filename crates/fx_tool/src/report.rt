@@ -1,11 +1,9 @@
 ghost use Rattle.std.specs.Prelude.{◌≡◌, ◌<◌, ◌^◌, ◌∷◌, ◌++◌, [], IfOk, codes};
 ghost use Rattle.std.specs.String.{string_bytes};
 ghost use Rattle.std.specs.Fmt.{decimal};
-ghost use Rattle.fx_tool.specs.Outcome.{not_built_text};
 ghost use Rattle.fx_tool.specs.Printed.{accepted_text, decimal_up, name_of, refused_text};
 
 use crate::inequality::{Inequality, Refusal};
-use crate::outcome::Part;
 use fx_decimal::{Decimal, print_up};
 use std::alloc::{AllocError, Global};
 
@@ -59,20 +57,10 @@ fn refused_line(alloc: Global, name: &str, left: u128, right: u128) -> Result<St
 }
 
 /// The line of a refused certificate: the first inequality that fails, and both sides.
-pub fn refused(alloc: Global, refusal: &Refusal) -> Result<String, AllocError>
-    ensures { IfOk result (λ t. string_bytes t ≡ refused_text refusal.now) }
+pub fn refused(alloc: Global, refusal: &Refusal) -> Result<Vec<u8>, AllocError>
+    ensures { IfOk result (λ t. t.items ≡ refused_text refusal.now) }
 {
     let name = name_of(alloc, refusal.which)?;
-    refused_line(alloc, name.as_str(), refusal.left, refusal.right)
-}
-
-/// The line of a file that is not of the built form.
-pub fn not_built(part: Part) -> &'static str
-    ensures { result.now ≡ not_built_text part }
-{
-    match part {
-        Part::Filter => "not built yet filter\n",
-        Part::Code => "not built yet code\n",
-        Part::Certificate => "not built yet certificate\n",
-    }
+    let line = refused_line(alloc, name.as_str(), refusal.left, refusal.right)?;
+    Ok(line.into_bytes())
 }

@@ -8,7 +8,7 @@ pub enum Status {
     Done,
     /// The three files read, and an inequality fails.
     Refused,
-    /// The words are no command.
+    /// The words are no command. No run ends so while commands are still to be built: such words are `NotBuiltYet`.
     Usage,
     /// The filter's bytes are refused.
     BadFilter,

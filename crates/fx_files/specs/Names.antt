@@ -1,0 +1,86 @@
+-- The keys and words of a filter file, as it spells them.
+use Rattle.std.specs.Prelude.{ℕ, List, [], ◌∷◌, ◌++◌, codes, Option, Some, None, if◌then◌else◌}
+use Rattle.std.specs.Str.{bytes_eq}
+use Rattle.fx_files.specs.declared.key.Key.{Key}
+use Rattle.fx_files.specs.declared.key.Key.TheVariants as key
+use Rattle.fx_files.specs.declared.words.Form.{Form}
+use Rattle.fx_files.specs.declared.words.Form.TheVariants as form
+use Rattle.fx_files.specs.declared.words.Structure.{Structure}
+use Rattle.fx_files.specs.declared.words.Structure.TheVariants as structure
+
+-- a key; one of a table inside a list stands behind that list's key and a point
+abbrev pub name_of : Key → List ℕ
+name_of key.Form = codes "form"
+name_of key.InputLow = codes "input_low"
+name_of key.Inputs = codes "inputs"
+name_of key.InputsWidth = codes "inputs.width"
+name_of key.InputsBound = codes "inputs.bound"
+name_of key.Outputs = codes "outputs"
+name_of key.OutputsWidth = codes "outputs.width"
+name_of key.OutputsLow = codes "outputs.low"
+name_of key.OutputsError = codes "outputs.error"
+name_of key.B = codes "b"
+name_of key.A = codes "a"
+name_of key.Sections = codes "sections"
+name_of key.MatA = codes "A"
+name_of key.MatB = codes "B"
+name_of key.MatC = codes "C"
+name_of key.MatD = codes "D"
+name_of key.K = codes "k"
+name_of key.V = codes "v"
+name_of key.Structure = codes "structure"
+name_of key.Accumulator = codes "accumulator"
+name_of key.Word = codes "word"
+name_of key.Guards = codes "guards"
+name_of key.Fractions = codes "fractions"
+name_of key.Lengths = codes "lengths"
+
+-- the keys that files of each form may have
+abbrev pub shared_keys : List (List ℕ)
+shared_keys =
+    codes "form" ∷ codes "input_low" ∷ codes "inputs" ∷ codes "outputs" ∷ codes "structure" ∷ codes "accumulator"
+    ∷ codes "word" ∷ codes "guards" ∷ codes "fractions" ∷ codes "lengths" ∷ []
+
+-- the keys of the coefficients
+abbrev pub own_keys : Form → List (List ℕ)
+own_keys form.Tf = codes "b" ∷ codes "a" ∷ []
+own_keys form.Sos = codes "sections" ∷ []
+own_keys form.Ss = codes "A" ∷ codes "B" ∷ codes "C" ∷ codes "D" ∷ []
+own_keys form.Lattice = codes "k" ∷ codes "v" ∷ []
+
+abbrev pub known_keys : Form → List (List ℕ)
+known_keys f = shared_keys ++ own_keys f
+
+-- ---- words
+
+abbrev pub form_text : Form → List ℕ
+form_text form.Tf = codes "tf"
+form_text form.Sos = codes "sos"
+form_text form.Ss = codes "ss"
+form_text form.Lattice = codes "lattice"
+
+abbrev pub form_word : List ℕ → Option Form
+form_word w =
+    if bytes_eq w (codes "tf") then Some form.Tf else if bytes_eq w (codes "sos") then Some form.Sos
+    else if bytes_eq w (codes "ss") then Some form.Ss else if bytes_eq w (codes "lattice") then Some form.Lattice else None
+
+abbrev pub structure_text : Structure → List ℕ
+structure_text structure.Df1 = codes "df1"
+structure_text structure.Df2 = codes "df2"
+structure_text structure.Df2t = codes "df2t"
+structure_text structure.Fir = codes "fir"
+structure_text structure.Lattice = codes "lattice"
+structure_text structure.Ss = codes "ss"
+
+abbrev pub structure_word : List ℕ → Option Structure
+structure_word w =
+    if bytes_eq w (codes "df1") then Some structure.Df1 else if bytes_eq w (codes "df2") then Some structure.Df2
+    else if bytes_eq w (codes "df2t") then Some structure.Df2t else if bytes_eq w (codes "fir") then Some structure.Fir
+    else if bytes_eq w (codes "lattice") then Some structure.Lattice else if bytes_eq w (codes "ss") then Some structure.Ss else None
+
+-- the structure where a file names none
+abbrev pub default_structure : Form → Structure
+default_structure form.Tf = structure.Df1
+default_structure form.Sos = structure.Df2t
+default_structure form.Ss = structure.Ss
+default_structure form.Lattice = structure.Lattice

@@ -1,0 +1,4 @@
+pub mod CodeFault
+pub mod Filter
+pub mod FilterFault
+pub mod SampleFault

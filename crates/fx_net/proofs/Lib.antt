@@ -1,0 +1,10 @@
+pub mod Apart
+pub mod Carried
+pub mod Coefficients
+pub mod Denominators
+pub mod Empty
+pub mod Exact
+pub mod Filling
+pub mod Numbers
+pub mod Positions
+pub mod Sources

@@ -1,0 +1,11 @@
+use Rattle.std.proofs.Common.{◌≡◌, ◌≤◌, ◌<◌, ◌*◌, ◌+◌, ℕ, get_or, length}
+use Rattle.fx_eqs.specs.Expanded.{row_hold_place}
+use Rattle.fx_net.proofs.layout.row_places.Given as goal
+
+abbrev pub invariant-loop-j : goal.invariant-loop-j
+invariant-loop-j l = record {
+  next : l.next ≡ row_hold_place l.eqs l.j;
+  high : l.next ≤ 255 * 5 + 255 * l.j;
+  count : length l.places ≡ 24;
+  places : (k : ℕ) → k < l.j → get_or l.places k 0 ≡ row_hold_place l.eqs k;
+}

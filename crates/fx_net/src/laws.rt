@@ -1,0 +1,26 @@
+ghost use Rattle.fx_eqs.specs.Denominator.{common};
+ghost use Rattle.fx_net.specs.Laws.{DividesEach, ExactInNet, ExactInRuns, RowsStand};
+
+use fx_eqs::{Eqs, exact_values_meet_their_equations, systems_fit};
+
+/// A law with nothing to run: rows that are put stand in the net.
+pub fn rows_stand()
+    ensures { RowsStand }
+{}
+
+/// A law with nothing to run: the product of the greatest powers of two and of ten among the denominators of a system is
+/// a denominator of each of its coefficients.
+pub fn common_divides_each(eqs: &Eqs)
+    ensures { DividesEach (common eqs.now) eqs.now.terms }
+{}
+
+/// A law with nothing to run: where a net holds the expanded rows of a system, and these have just what they read, the
+/// rows of the equations have their exact values at all moments, over each denominator of the net and each of the
+/// equations. The other rows may have any values. So it is in each run that has no kick in these rows.
+pub fn equation_rows_have_the_exact_values(eqs: &Eqs)
+    ensures rows { ExactInNet eqs.now }
+    ensures runs { ExactInRuns eqs.now }
+{
+    systems_fit(eqs);
+    exact_values_meet_their_equations(eqs);
+}

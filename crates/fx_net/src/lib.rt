@@ -1,0 +1,12 @@
+//! Nets of rows that read rows of the same moment, rows of the moment before, and inputs.
+#![tactic(auto)]
+
+mod equations;
+mod laws;
+mod layout;
+mod net;
+#[cfg(test)]
+mod tests;
+
+pub use laws::{common_divides_each, equation_rows_have_the_exact_values, rows_stand};
+pub use net::{Net, nets_fit};

@@ -1,0 +1,151 @@
+ghost use Rattle.std.specs.Prelude.{◌≡◌, ◌<◌, ◌≤◌, IfOk};
+ghost use Rattle.fx_mat.specs.Entries.{zero_fraction};
+ghost use Rattle.fx_net.specs.Net.{NetFits, empty_net, plain, put_halves, put_input, put_now, put_old};
+ghost use Rattle.fx_net.specs.Tables.{net_of};
+
+use fx_mat::{FracMat, entries_outside_are_zero};
+use fx_nums::{Den, Frac};
+use std::alloc::{AllocError, Global};
+use std::marker::Model;
+
+/// N rows, each with coefficients of rows of the same moment, of rows of the moment before and of four inputs, and with
+/// a class: how many half steps it may be off. N is 1 to 64.
+#[derive(Drop)]
+pub struct Net<const N: usize> {
+    present: FracMat<N, N>,
+    past: FracMat<N, N>,
+    inputs: FracMat<N, 4>,
+    classes: Vec<u8>,
+}
+
+impl<const N: usize> Model for Net<N> {
+    ghost use Rattle.fx_net.specs.Tables.{ClassesFit, Tables};
+
+    ghost Value = { Tables };
+
+    ghost view = { λ n. record { size = N; present = n.present; past = n.past; inputs = n.inputs; classes = n.classes.items } };
+
+    ghost invariant = { λ n. ClassesFit N n.classes.items };
+}
+
+// 0 over 10^0 for a fraction of value 0, each other as it is.
+fn plain(c: Frac) -> Frac
+    ensures { result ≡ plain c }
+{
+    if c.num() == 0 {
+        return Frac::new(0, Den::Ten(0)).unwrap();
+    }
+    c
+}
+
+impl<const N: usize> Net<N> {
+    /// A net whose rows read nothing and have class 0. Its error is want of memory.
+    pub fn new(alloc: Global) -> Result<Net<N>, AllocError>
+        requires low { 1 ≤ N }
+        requires high { N ≤ 64 }
+        ensures { IfOk result (λ n. net_of n ≡ empty_net N) }
+    {
+        Ok(Net {
+            present: FracMat::new(alloc)?,
+            past: FracMat::new(alloc)?,
+            inputs: FracMat::new(alloc)?,
+            classes: vec![in alloc; 0; N]?,
+        })
+    }
+
+    /// Makes each row read nothing and have class 0.
+    pub fn clear(&mut self)
+        ensures { net_of self.new ≡ empty_net N }
+    {
+        self.present.clear();
+        self.past.clear();
+        self.inputs.clear();
+        self.classes.fill(0);
+    }
+
+    /// Sets what row `i`, below N, takes of row `j`, below `i`, of the same moment. A coefficient of value 0 is kept as 0
+    /// over 10^0.
+    pub fn set_now(&mut self, i: usize, j: usize, c: Frac)
+        requires row { i < N }
+        requires source { j < i }
+        ensures { net_of self.new ≡ put_now i j c (net_of self.old) }
+    {
+        self.present.set(i, j, plain(c));
+    }
+
+    /// Sets what row `i` takes of row `j` of the moment before; both are below N. A coefficient of value 0 is kept as 0
+    /// over 10^0.
+    pub fn set_old(&mut self, i: usize, j: usize, c: Frac)
+        requires row { i < N }
+        requires source { j < N }
+        ensures { net_of self.new ≡ put_old i j c (net_of self.old) }
+    {
+        self.past.set(i, j, plain(c));
+    }
+
+    /// Sets what row `i`, below N, takes of input `j`, below 4. A coefficient of value 0 is kept as 0 over 10^0.
+    pub fn set_in(&mut self, i: usize, j: usize, c: Frac)
+        requires row { i < N }
+        requires source { j < 4 }
+        ensures { net_of self.new ≡ put_input i j c (net_of self.old) }
+    {
+        self.inputs.set(i, j, plain(c));
+    }
+
+    /// Sets the class of row `i`, below N: it may be off by `e` half steps, at most 2.
+    #[tactic(auto, using(crate::proofs::Numbers::written_number))]
+    pub fn set_halves(&mut self, i: usize, e: u8)
+        requires row { i < N }
+        requires class { e ≤ 2 }
+        ensures { net_of self.new ≡ put_halves i e (net_of self.old) }
+    {
+        self.classes[i] = e;
+    }
+
+    /// What row `i` takes of row `j` of the same moment; both are below N.
+    pub fn now(&self, i: usize, j: usize) -> Frac
+        requires row { i < N }
+        requires source { j < N }
+        ensures { result ≡ (net_of self.now).now i j }
+    {
+        self.present.get(i, j)
+    }
+
+    /// What row `i` takes of row `j` of the moment before; both are below N.
+    pub fn old(&self, i: usize, j: usize) -> Frac
+        requires row { i < N }
+        requires source { j < N }
+        ensures { result ≡ (net_of self.now).old i j }
+    {
+        self.past.get(i, j)
+    }
+
+    /// What row `i`, below N, takes of input `j`, below 4.
+    pub fn input(&self, i: usize, j: usize) -> Frac
+        requires row { i < N }
+        requires source { j < 4 }
+        ensures { result ≡ (net_of self.now).input i j }
+    {
+        self.inputs.get(i, j)
+    }
+
+    /// The class of row `i`, below N: how many half steps it may be off, at most 2.
+    #[tactic(auto, using(crate::proofs::Numbers::number_read))]
+    pub fn halves(&self, i: usize) -> u8
+        requires row { i < N }
+        ensures value { result ≡ (net_of self.now).halves i }
+        ensures high { result ≤ 2 }
+    {
+        self.classes[i]
+    }
+}
+
+/// A law with nothing to run: each net has N rows, nothing outside, and at most two half steps a row.
+pub fn nets_fit<const N: usize>(net: &Net<N>)
+    ensures { NetFits N (net_of net.now) }
+{
+    entries_outside_are_zero(&net.present);
+    entries_outside_are_zero(&net.past);
+    entries_outside_are_zero(&net.inputs);
+    let _ = &net.classes;
+}

@@ -1,0 +1,7 @@
+mod FirstFault
+mod InBlocks
+mod Kept
+mod Matches
+mod NoFault
+pub mod Placing
+pub mod Summing

@@ -1,0 +1,79 @@
+-- The first fault of an implicit form, and the fault that an answer tells.
+use Rattle.std.specs.Prelude.{ℕ, pos, nat_lt, nat_le, int_lt, unsigned_abs, ◌==◌, Bool, true, false, not, ◌&&◌, ◌||◌, List, [], ◌∷◌, ◌++◌, length, Option, Some, None, Result, Ok, Err}
+use Rattle.std.specs.Option.{option_or}
+use Rattle.std.specs.List.{list_any}
+use Rattle.fx_nums.specs.Fraction.{Fraction, den_value}
+use Rattle.fx_sif.specs.Blocks.{height, width, same_place}
+use Rattle.fx_sif.specs.Form.{rows}
+use Rattle.fx_sif.specs.declared.parts.Block.{Block}
+use Rattle.fx_sif.specs.declared.parts.Block.TheVariants.{J}
+use Rattle.fx_sif.specs.declared.parts.Entry.{Entry}
+use Rattle.fx_sif.specs.declared.parts.Sizes.{Sizes}
+use Rattle.fx_sif.specs.declared.fault.SifFault.{SifFault}
+use Rattle.fx_sif.specs.declared.fault.SifFault.TheVariants.{Shape, NotUnitLower, Twice, Limit, NoMemory}
+
+-- this fault where a test holds, else the first of the rest
+abbrev pub fault_if : Bool → SifFault → Option SifFault → Option SifFault
+fault_if true fault rest = Some fault
+fault_if false fault rest = rest
+
+-- ---- the counts
+
+-- not from 1 to the greatest
+abbrev pub is_out : ℕ → ℕ → Bool
+is_out greatest n = n == 0 || nat_lt greatest n
+
+-- of the rows, the inputs, the outputs
+abbrev pub limit_fault : Sizes → Option SifFault → Option SifFault
+limit_fault s rest =
+    fault_if (is_out 40 (rows s)) (Limit (rows s)) (
+    fault_if (is_out 4 s.u) (Limit s.u) (
+    fault_if (is_out 4 s.y) (Limit s.y) rest))
+
+-- ---- one entry
+
+abbrev pub is_zero : Fraction → Bool
+is_zero c = unsigned_abs c.num == 0
+
+-- above 0, and as great as its denominator
+abbrev pub is_one : Fraction → Bool
+is_one c = int_lt (pos 0) c.num && unsigned_abs c.num == den_value c.den
+
+-- not 1 on the diagonal of J, or not 0 above it
+abbrev pub breaks_unit_lower : Block → ℕ → ℕ → Fraction → Bool
+breaks_unit_lower J i j c = (i == j && not (is_one c)) || (nat_lt i j && not (is_zero c))
+breaks_unit_lower _ i j c = false
+
+-- of one entry behind earlier ones; the count of these is its place
+abbrev pub entry_fault : Sizes → List Entry → Entry → Option SifFault
+entry_fault s earlier e =
+    let place = length earlier in
+    fault_if (nat_le (height s e.block) e.i || nat_le (width s e.block) e.j) (Shape place) (
+    fault_if (breaks_unit_lower e.block e.i e.j e.coef) (NotUnitLower e.i e.j) (
+    fault_if (list_any (same_place e) earlier) (Twice place) None))
+
+-- ---- the form
+
+-- the first, entry by entry
+abbrev pub entries_fault : Sizes → List Entry → List Entry → Option SifFault
+entries_fault s earlier [] = None
+entries_fault s earlier (e ∷ es) = option_or (entry_fault s earlier e) (entries_fault s (earlier ++ e ∷ []) es)
+
+-- first of the counts, then of the entries
+abbrev pub sif_fault : Sizes → List Entry → Option SifFault
+sif_fault s entries = limit_fault s (entries_fault s [] entries)
+
+-- ---- an answer
+
+-- the fault that an error tells: none where memory was refused
+abbrev pub told : SifFault → Option SifFault
+told NoMemory = None
+told (Shape place) = Some (Shape place)
+told (NotUnitLower i j) = Some (NotUnitLower i j)
+told (Twice place) = Some (Twice place)
+told (Limit count) = Some (Limit count)
+
+-- the fault that an answer tells: none where the form was made
+abbrev pub fault_told : {T : Type 0} → Result T SifFault → Option SifFault
+fault_told (Ok x) = None
+fault_told (Err fault) = told fault

@@ -1,0 +1,9 @@
+pub mod Blocks
+pub mod Faults
+pub mod Fits
+pub mod Form
+pub mod Inside
+pub mod Laws
+pub mod Rows
+pub mod Runs
+pub mod SameOutputs

@@ -1,0 +1,33 @@
+-- When an implicit form puts out the same as an equation system.
+use Rattle.std.specs.Prelude.{◌≡◌, ℕ, ◌+◌, ◌*◌, ◌^◌, ◌<◌, ℤ, pos, ◌*ℤ◌, length, slice_index_or}
+use Rattle.fx_eqs.specs.Equations.{Equations}
+use Rattle.fx_eqs.specs.ExactRun.{exact_value}
+use Rattle.fx_net.specs.Laws.{DividesEach}
+use Rattle.fx_net.specs.Net.{Net, empty_net}
+use Rattle.fx_net.specs.Rows.{put_rows}
+use Rattle.fx_net.specs.Run.{IsDenominator, IsRun, row_time}
+use Rattle.fx_sif.specs.Form.{Form, rows}
+use Rattle.fx_sif.specs.Rows.{rows_of}
+
+-- the net of a form alone
+abbrev pub net_alone : Form → Net
+net_alone f = put_rows (rows_of f) 0 (empty_net (rows f.sizes))
+
+-- the row of output o in that net, and in the equations
+abbrev pub form_output : Form → ℕ → ℕ
+form_output f o = f.sizes.t + f.sizes.x + o
+
+abbrev pub equations_output : Equations → ℕ → ℕ
+equations_output eqs o = slice_index_or eqs.outputs o 0
+
+-- output o is the same at moment k: z over powers of q in the net, the exact value over powers of g in the equations
+abbrev pub IsSameOutput : Form → Equations → ℕ → ℕ → (ℕ → ℕ → ℤ) → (ℕ → ℕ → ℤ) → ℕ → ℕ → Type 0
+IsSameOutput f eqs q g u z k o =
+    let i = equations_output eqs o in
+    z k (form_output f o) *ℤ pos (g ^ (k * eqs.rows + i + 1)) ≡ exact_value eqs g u k i *ℤ pos (q ^ (row_time (net_alone f) k (form_output f o) + 1))
+
+-- as many inputs and outputs, and the same outputs in each run without kicks, whatever the inputs
+pub record HasOutputs (f : Form) (eqs : Equations) : Type 0 where
+  pub inputs : f.sizes.u ≡ eqs.inputs
+  pub outputs : f.sizes.y ≡ length eqs.outputs
+  pub same : (q g : ℕ) (u z : ℕ → ℕ → ℤ) → IsDenominator (net_alone f) q → DividesEach g eqs.terms → IsRun (net_alone f) q u z (λ k i. pos 0) → (k o : ℕ) → o < f.sizes.y → IsSameOutput f eqs q g u z k o

@@ -1,0 +1,139 @@
+ghost use Rattle.std.specs.Prelude.{◌≡◌, ◌+◌, ◌<◌, ◌≤◌, ◌^◌, length, IfOk};
+ghost use Rattle.fx_net.specs.Rows.{AreEmpty, put_rows};
+ghost use Rattle.fx_net.specs.Tables.{net_of};
+ghost use Rattle.fx_sif.specs.Faults.{fault_told, sif_fault};
+ghost use Rattle.fx_sif.specs.Fits.{FormFits};
+ghost use Rattle.fx_sif.specs.Form.{Form, entry_of, given_or, not_given, rows};
+ghost use Rattle.fx_sif.specs.Rows.{rows_of};
+
+use crate::checks::{is_at, sif_fault};
+use crate::fault::SifFault;
+use crate::parts::{Block, Entry, Sizes};
+use crate::rows::put_entries;
+use fx_net::Net;
+use fx_nums::{Den, Frac};
+use std::alloc::{AllocError, Global};
+use std::marker::Model;
+
+/// A filter in the specialised implicit form. J is lower triangular with ones on its diagonal, so the intermediate
+/// variables are computed one after the other. Each form keeps the limits that its making tests.
+#[derive(Drop)]
+pub struct Sif {
+    sizes: Sizes,
+    entries: Vec<Entry>,
+}
+
+impl Model for Sif {
+    ghost use Rattle.fx_sif.specs.Form.{Form};
+
+    ghost Value = { Form };
+
+    ghost use Rattle.fx_sif.specs.Inside.{form_of};
+    ghost use Rattle.fx_sif.specs.Fits.{FormFits};
+
+    ghost view = { form_of };
+
+    ghost invariant = { λ s. FormFits (form_of s) };
+}
+
+// What stands where nothing was given.
+fn not_given(sizes: Sizes, block: Block, i: usize, j: usize) -> Frac
+    ensures { result ≡ not_given sizes block i j }
+{
+    let is_one = block == Block::J && i == j && i < usize::from(sizes.t);
+    Frac::new(i64::from(is_one), Den::Ten(0)).unwrap()
+}
+
+// The coefficient of the first entry in a place; the one that is passed where there is none.
+fn given_or(missing: Frac, block: Block, i: usize, j: usize, entries: &[Entry]) -> Frac
+    ensures { result ≡ given_or missing block i j entries.now }
+{
+    for entry in entries {
+        if is_at(block, i, j, entry) {
+            return entry.coef;
+        }
+    }
+    missing
+}
+
+impl Sif {
+    /// The form of these counts and entries. What is not given is 1 on the diagonal of J and 0 elsewhere.
+    ///
+    /// Its error is the first fault, of the counts and then entry by entry, and `NoMemory` only where there is none.
+    pub fn build(alloc: Global, sizes: Sizes, entries: &[Entry]) -> Result<Sif, SifFault>
+        requires entries { length entries.now < 2 ^ 32 }
+        ensures ok { IfOk result (λ s. s ≡ record { sizes = sizes; entries = entries.now }) }
+        ensures fault { sif_fault sizes entries.now ≡ fault_told result }
+    {
+        if let Some(fault) = sif_fault(sizes, entries) {
+            return Err(fault);
+        }
+        let Ok(entries) = entries.to_vec(alloc) else {
+            return Err(SifFault::NoMemory);
+        };
+        Ok(Sif { sizes, entries })
+    }
+
+    /// How many intermediate variables, states, inputs and outputs there are: 1 to 4 inputs and 1 to 4 outputs.
+    pub fn sizes(&self) -> Sizes
+        ensures value { result ≡ self.now.sizes }
+        ensures inputs_low { 1 ≤ result.u }
+        ensures inputs_high { result.u ≤ 4 }
+        ensures outputs_low { 1 ≤ result.y }
+        ensures outputs_high { result.y ≤ 4 }
+        ensures rows_high { rows result ≤ 40 }
+    {
+        self.sizes
+    }
+
+    /// How many rows there are, one for each intermediate variable, each state and each output: 1 to 40.
+    pub fn rows(&self) -> usize
+        ensures value { result ≡ rows self.now.sizes }
+        ensures low { 1 ≤ result }
+        ensures high { result ≤ 40 }
+    {
+        usize::from(self.sizes.t) + usize::from(self.sizes.x) + usize::from(self.sizes.y)
+    }
+
+    /// The coefficient in row `i` and column `j` of a block, as it was given. What was not given is 1 over 10^0 on the
+    /// diagonal of J, else 0 over 10^0; so is what lies outside the block.
+    pub fn entry(&self, block: Block, i: usize, j: usize) -> Frac
+        ensures { result ≡ entry_of self.now block i j }
+    {
+        given_or(
+            not_given(self.sizes, block, i, j),
+            block,
+            i,
+            j,
+            &self.entries,
+        )
+    }
+
+    /// Writes the rows of the form into a net, from row `at` on: the intermediate variables, then the states behind the
+    /// moment, then the outputs. A state is read as the row's value of the moment before. The rows have to fit into the
+    /// net, and to be empty there; the other rows stay.
+    pub fn put_net<const N: usize>(&self, net: &mut Net<N>, at: usize)
+        requires room { at + rows self.now.sizes ≤ N }
+        requires empty { AreEmpty at (rows self.now.sizes) (net_of net.old) }
+        ensures { net_of net.new ≡ put_rows (rows_of self.now) at (net_of net.old) }
+    {
+        put_entries(self.sizes, &self.entries, net, at);
+    }
+
+    /// An equal form.
+    pub fn copy(&self, alloc: Global) -> Result<Sif, AllocError>
+        ensures { IfOk result (λ s. s ≡ self.now) }
+    {
+        Ok(Sif {
+            sizes: self.sizes,
+            entries: self.entries.to_vec(alloc)?,
+        })
+    }
+}
+
+/// A law with nothing to run: each form keeps the limits.
+pub fn forms_fit(form: &Sif)
+    ensures { FormFits form.now }
+{
+    let _ = &form.sizes;
+}

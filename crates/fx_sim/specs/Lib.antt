@@ -1,0 +1,6 @@
+pub mod Fields
+pub mod Laws
+pub mod Output
+pub mod Remaining
+pub mod Samples
+pub mod Simulation

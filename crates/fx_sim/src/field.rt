@@ -1,0 +1,62 @@
+// The numbers of fields.
+
+ghost use Rattle.std.specs.Prelude.{◌≡◌, ◌<◌, ◌^◌, IfSome, FitsSigned};
+ghost use Rattle.std.specs.Int.{w64};
+ghost use Rattle.fx_sim.specs.Fields.{field_value, is_blank, magnitude, skipped};
+
+fn is_blank(byte: u8) -> bool
+    ensures { result ≡ is_blank byte }
+{
+    byte == b' ' || byte == b'\t' || byte == b'\r' || byte == b'\n'
+}
+
+// What follows the blanks at the front.
+#[tactic(auto, unfolding(crate::specs::Fields::skipped))]
+fn skipped(bytes: &[u8]) -> &[u8]
+    ensures { result.now ≡ skipped bytes.now }
+{
+    for (i, byte) in bytes.iter().enumerate() {
+        if !is_blank(*byte) {
+            return &bytes[i..];
+        }
+    }
+    &[]
+}
+
+// The number of 1 to 18 digits with only blanks behind them.
+#[tactic(auto, unfolding(crate::specs::Fields::magnitude, crate::specs::Fields::skipped), using(crate::proofs::Digits::small_value, crate::proofs::Digits::grows))]
+fn magnitude(bytes: &[u8]) -> Option<u64>
+    ensures value { result ≡ magnitude 0 0 bytes.now }
+    ensures small { IfSome result (λ n. n < 10 ^ 18) }
+{
+    let mut value = 0u64;
+    let mut count = 0usize;
+    for (i, byte) in bytes.iter().enumerate() {
+        if *byte < b'0' || *byte > b'9' {
+            return if count > 0 && skipped(&bytes[i..]).is_empty() {
+                Some(value)
+            } else {
+                None
+            };
+        }
+        if count == 18 {
+            return None;
+        }
+        value = 10 * value + (*byte - b'0') as u64;
+        count += 1;
+    }
+    if count > 0 { Some(value) } else { None }
+}
+
+/// The number of a field: blanks, perhaps a sign, 1 to 18 digits, and blanks.
+#[tactic(auto, unfolding(crate::specs::Fields::signed, crate::specs::Fields::magnitude))]
+pub fn field_value(field: &[u8]) -> Option<i64>
+    ensures value { result ≡ field_value field.now }
+    ensures fits { IfSome result (λ z. FitsSigned w64 z) }
+{
+    match skipped(field) {
+        [b'-', rest @ ..] => Some(-(magnitude(rest)? as i64)),
+        [b'+', rest @ ..] => Some(magnitude(rest)? as i64),
+        rest => Some(magnitude(rest)? as i64),
+    }
+}

@@ -1,0 +1,16 @@
+//! Runs of programs of integer code on samples: comma-separated text in, comma-separated text out.
+#![tactic(auto)]
+
+mod fault;
+mod field;
+mod laws;
+mod moment;
+mod record;
+mod simulation;
+#[cfg(test)]
+mod tests;
+mod text;
+
+pub use fault::SampleFault;
+pub use laws::{fields_are_read_exactly, samples_are_read_exactly};
+pub use simulation::simulate;

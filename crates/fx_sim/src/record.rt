@@ -1,0 +1,37 @@
+// The records of samples, by `csv`.
+
+ghost use Rattle.std.specs.Prelude.{◌≡◌, ◌≤◌, ◌∷◌, [], length, true, false, IfOk, IfErr};
+ghost use Rattle.csv.specs.Reading.{default_config, records, strip_bom};
+ghost use Rattle.csv.specs.Records.{fields_of};
+ghost use Rattle.fx_sim.specs.Remaining.{Stands, records_left};
+ghost use Rattle.fx_sim.specs.declared.fault.SampleFault.TheVariants.{NoMemory};
+
+use crate::fault::SampleFault;
+use csv::{ByteRecord, Reader, ReaderBuilder};
+use std::alloc::Global;
+
+// A reader of a text: no header, commas, quotes as by default, no trimming, records of any length.
+pub fn text_reader(alloc: Global, text: &[u8]) -> Reader<&[u8]>
+    ensures stands { Stands result }
+    ensures records { records_left result ≡ records default_config (strip_bom text.now) }
+    ensures few { length (records_left result) ≤ length text.now }
+{
+    ReaderBuilder::new()
+        .has_headers(false)
+        .flexible(true)
+        .from_reader(alloc, text)
+}
+
+// The next record into `row`, and whether there was one.
+pub fn next_record(reader: &mut Reader<&[u8]>, row: &mut ByteRecord) -> Result<bool, SampleFault>
+    requires { Stands reader.old }
+    ensures stands { IfOk result (λ found. found ≡ true → Stands reader.new) }
+    ensures found { IfOk result (λ found. found ≡ true → records_left reader.old ≡ fields_of row.new ∷ records_left reader.new) }
+    ensures none { IfOk result (λ found. found ≡ false → records_left reader.old ≡ []) }
+    ensures memory { IfErr result (λ e. e ≡ NoMemory) }
+{
+    let Ok(found) = reader.read_byte_record(row) else {
+        return Err(SampleFault::NoMemory);
+    };
+    Ok(found)
+}

@@ -1,0 +1,66 @@
+// Runs of a program on samples.
+
+ghost use Rattle.std.specs.Prelude.{◌≡◌, ◌++◌, ◌∷◌, [], List, ℤ, length, OnOk};
+ghost use Rattle.fx_code.specs.Code.{Code, IsWhole};
+ghost use Rattle.fx_code.specs.Inputs.{IsMoment, word_at};
+ghost use Rattle.fx_code.specs.Moments.{StandsAfter, outputs_at};
+ghost use Rattle.fx_sim.specs.Output.{line_of};
+ghost use Rattle.fx_sim.specs.Samples.{Gives};
+ghost use Rattle.fx_sim.specs.Simulation.{simulation};
+
+use crate::fault::SampleFault;
+use crate::moment::read_moment;
+use crate::record::{next_record, text_reader};
+use crate::text::put_line;
+use csv::ByteRecord;
+use fx_code::{Machine, Program, words_read_no_later_inputs};
+use std::alloc::{AllocError, Global};
+
+// Runs one moment, and puts its line.
+fn put_moment(
+    machine: &mut Machine<'_>,
+    input: &[i64],
+    output: &mut [i64],
+    text: &mut Vec<u8>,
+) -> Result<(), AllocError>
+    requires input { IsMoment machine.old.program input.now }
+    requires output { length output.old ≡ length machine.old.program.outputs }
+    ensures stands { (p : Code) (list : List (List ℤ)) → StandsAfter machine.old p list → StandsAfter machine.new p (list ++ input.now ∷ []) }
+    ensures output { (p : Code) (list : List (List ℤ)) → StandsAfter machine.old p list → output.new ≡ outputs_at p (word_at (list ++ input.now ∷ [])) (length list) }
+    ensures line { OnOk result (text.new.items ≡ text.old.items ++ line_of output.new) }
+{
+    machine.step(input, output);
+    put_line(text, output)
+}
+
+/// The text of a program's run on samples: for each record one line, the output words in decimal, joined by commas and
+/// ended by a line feed.
+///
+/// The records are those that `csv` reads, with no header, commas, quotes as by default, no trimming, and any count of
+/// fields; a byte order mark at the start is skipped. A field is blanks (space, tab, carriage return, line feed),
+/// perhaps a sign, 1 to 18 digits, and blanks. Its number lies in its input's width, in two's complement.
+///
+/// The error is the first fault in the order of the records: of one record the count of its fields comes first, then
+/// column by column. `NoMemory` is no fault of the samples.
+#[tactic(auto, using(crate::proofs::Midway::begins, crate::proofs::Midway::front_of_four))]
+pub fn simulate(alloc: Global, program: &Program, samples: &[u8]) -> Result<Vec<u8>, SampleFault>
+    requires { IsWhole program.now }
+    ensures { Gives (λ text. text.items) result (simulation program.now samples.now) }
+{
+    words_read_no_later_inputs();
+    let mut machine = Machine::new(alloc, program)?;
+    let mut words = [0i64; 4];
+    let mut results = [0i64; 4];
+    let input = &mut words[..program.inputs()];
+    let output = &mut results[..program.outputs().len()];
+    let mut text = Vec::new(alloc);
+    let mut row = ByteRecord::new(alloc);
+    let mut reader = text_reader(alloc, samples);
+    let mut number = 0u64;
+    while next_record(&mut reader, &mut row)? {
+        number += 1;
+        read_moment(program, number, &row, input)?;
+        put_moment(&mut machine, input, output, &mut text)?;
+    }
+    Ok(text)
+}

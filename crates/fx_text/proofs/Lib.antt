@@ -1,0 +1,12 @@
+pub mod Bytes
+pub mod CodeLaws
+pub mod Fitting
+pub mod Lengths
+pub mod Lines
+pub mod Loops
+pub mod NumberLaws
+pub mod PartLaws
+pub mod ProgramAgain
+pub mod ProgramSound
+pub mod TokenLaws
+pub mod Written

@@ -1,0 +1,15 @@
+//! Integer code as text: a program is read and written exactly.
+#![tactic(auto)]
+
+mod fault;
+mod parts;
+mod reader;
+mod term;
+#[cfg(test)]
+mod tests;
+mod token;
+mod writer;
+
+pub use fault::CodeFault;
+pub use reader::{code_is_read_exactly, read_code, text_spells_one_program};
+pub use writer::{write_code, written_code_is_spelled};

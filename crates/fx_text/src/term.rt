@@ -1,0 +1,271 @@
+//! The parts of a row.
+
+ghost use Rattle.std.specs.Prelude.{◌≡◌, ◌≤◌, ◌<◌, ◌^◌, [], length, pos, IfOk, None};
+ghost use Rattle.std.specs.List.{list_any};
+ghost use Rattle.fx_code.specs.Code.{constant_of};
+ghost use Rattle.fx_code.specs.Limits.{same_source};
+ghost use Rattle.fx_text.specs.TokenReading.{Gives};
+ghost use Rattle.fx_text.specs.Reading.{signed, sign_at, coefficient_at, source_of, is_ahead, checked_source, source_at, term_at, statement_at, terms_at, constant_at, store_begins_at, store_at, checked_constant};
+
+use crate::fault::CodeFault;
+use crate::token::{
+    begins_with_letter, due_at, expect_at, name_number, next_at, number_at, pair_at, token_at,
+};
+use fx_code::{CodeTerm, LimitOf, Read};
+use std::alloc::Global;
+
+/// Where a row stands: its number, the count of rows and the count of inputs.
+#[derive(Clone, Copy, Debug, PartialEq, Eq)]
+pub struct Place {
+    pub row: u8,
+    pub rows: u8,
+    pub inputs: u8,
+}
+
+// A magnitude with its sign.
+fn signed(negative: bool, magnitude: u64) -> i64
+    requires { magnitude < 2 ^ 63 }
+    ensures { result ≡ signed negative magnitude }
+{
+    if negative {
+        -(magnitude as i64)
+    } else {
+        magnitude as i64
+    }
+}
+
+// Whether a `-` is next, and the place where its number is.
+#[tactic(auto, unfolding(crate::specs::Reading::sign_at, crate::specs::TokenReading::after_step))]
+fn sign_at(text: &[u8], at: usize) -> Result<(bool, usize), CodeFault>
+    requires { at ≤ length text.now }
+    ensures gives { Gives (λ s. s) result (sign_at text.now at) }
+    ensures within { IfOk result (λ s. s.1 ≤ length text.now) }
+{
+    let (_, word, end) = token_at(text, at)?;
+    if word == b"-".as_slice() {
+        Ok((true, end))
+    } else {
+        Ok((false, at))
+    }
+}
+
+// A coefficient below 2^62 in magnitude, and the place after it.
+#[tactic(auto, unfolding(crate::specs::Reading::coefficient_at, crate::specs::TokenReading::after_step))]
+fn coefficient_at(text: &[u8], at: usize) -> Result<(i64, usize), CodeFault>
+    requires { at ≤ length text.now }
+    ensures gives { Gives (λ k. k) result (coefficient_at text.now at) }
+    ensures within { IfOk result (λ k. k.1 ≤ length text.now) }
+{
+    let (negative, at) = sign_at(text, at)?;
+    let (magnitude, at) = number_at(text, at)?;
+    let coefficient = signed(negative, magnitude);
+    if magnitude >= 1 << 62 {
+        return Err(CodeFault::Limit(LimitOf::Coefficient, i128::from(coefficient)));
+    }
+    Ok((coefficient, at))
+}
+
+// The source of this name, if its number is below the count of rows or of inputs.
+#[tactic(auto, unfolding(crate::specs::Reading::source_of))]
+fn source_of(word: &[u8], place: &Place) -> Option<Read>
+    ensures { result ≡ source_of place.now word.now }
+{
+    if let Some(i) = name_number(word, b'r', place.rows) {
+        return Some(Read::Now(i));
+    }
+    if let Some(i) = name_number(word, b's', place.rows) {
+        return Some(Read::Old(i));
+    }
+    match name_number(word, b'u', place.inputs) {
+        Some(j) => Some(Read::In(j)),
+        None => None,
+    }
+}
+
+// Whether a source is a row's word of this moment that is not there yet.
+fn is_ahead(row: u8, from: Read) -> bool
+    ensures { result ≡ is_ahead row from }
+{
+    match from {
+        Read::Now(i) => i >= row,
+        Read::Old(_) => false,
+        Read::In(_) => false,
+    }
+}
+
+// Whether a source is read.
+fn reads_source(terms: &[CodeTerm], from: Read) -> bool
+    ensures { result ≡ list_any (λ e. same_source e.from from) terms.now }
+{
+    terms.iter().any(|e| e.from == from)
+}
+
+// A source behind those of earlier terms, and the place after it.
+fn checked_source(
+    row: u8,
+    terms: &[CodeTerm],
+    from: Read,
+    at: usize,
+) -> Result<(Read, usize), CodeFault>
+    ensures gives { Gives (λ s. s) result (checked_source row terms.now from at) }
+    ensures place { IfOk result (λ s. s.1 ≡ at) }
+{
+    if is_ahead(row, from) {
+        return Err(CodeFault::Order(row));
+    }
+    if reads_source(terms, from) {
+        return Err(CodeFault::Twice(row));
+    }
+    Ok((from, at))
+}
+
+// A source behind a comma and those of earlier terms, and the place after it.
+#[tactic(auto, unfolding(crate::specs::Reading::source_at, crate::specs::TokenReading::after_step))]
+fn source_at(
+    text: &[u8],
+    at: usize,
+    place: &Place,
+    terms: &[CodeTerm],
+) -> Result<(Read, usize), CodeFault>
+    requires { at ≤ length text.now }
+    ensures gives { Gives (λ s. s) result (source_at place.now terms.now text.now at) }
+    ensures within { IfOk result (λ s. s.1 ≤ length text.now) }
+{
+    let at = expect_at(text, at, b",")?;
+    let (start, word, end) = token_at(text, at)?;
+    if !begins_with_letter(word) {
+        return Err(CodeFault::Unexpected(start));
+    }
+    match source_of(word, place) {
+        Some(from) => checked_source(place.row, terms, from, end),
+        None => Err(CodeFault::Name(start)),
+    }
+}
+
+// `+= MUL ( coef , source , left ) ;` behind earlier terms, and the place after it.
+#[tactic(auto, unfolding(crate::specs::Reading::term_at, crate::specs::TokenReading::after_step))]
+fn term_at(
+    text: &[u8],
+    at: usize,
+    place: &Place,
+    terms: &[CodeTerm],
+) -> Result<(CodeTerm, usize), CodeFault>
+    requires { at ≤ length text.now }
+    ensures gives { Gives (λ t. t) result (term_at place.now terms.now text.now at) }
+    ensures within { IfOk result (λ t. t.1 ≤ length text.now) }
+{
+    let at = pair_at(text, at, b"+=", b"MUL")?;
+    let at = expect_at(text, at, b"(")?;
+    let (coef, at) = coefficient_at(text, at)?;
+    let (from, at) = source_at(text, at, place, terms)?;
+    let (left, at) = next_at(text, at, LimitOf::Left, 0, 62)?;
+    let at = pair_at(text, at, b")", b";")?;
+    Ok((CodeTerm { coef, from, left }, at))
+}
+
+// Whether a term begins, and not the store of this row, and the place after its name.
+#[tactic(auto, unfolding(crate::specs::Reading::statement_at, crate::specs::TokenReading::after_step))]
+fn statement_at(text: &[u8], at: usize, row: u8) -> Result<(bool, usize), CodeFault>
+    requires { at ≤ length text.now }
+    ensures gives { Gives (λ s. s) result (statement_at row text.now at) }
+    ensures within { IfOk result (λ s. s.1 ≤ length text.now) }
+{
+    let (_, word, end) = token_at(text, at)?;
+    if word == b"a".as_slice() {
+        return Ok((true, end));
+    }
+    let end = due_at(text, at, b'r', row)?;
+    Ok((false, end))
+}
+
+// The terms of a row, and the place after the name of its store.
+pub fn terms_at(
+    alloc: Global,
+    text: &[u8],
+    start: usize,
+    place: &Place,
+) -> Result<(Vec<CodeTerm>, usize), CodeFault>
+    requires { start ≤ length text.now }
+    ensures gives { Gives (λ t. (t.0.items, t.1)) result (terms_at 625 place.now [] text.now start) }
+    ensures within { IfOk result (λ t. t.1 ≤ length text.now) }
+{
+    let mut terms = Vec::new(alloc);
+    let mut at = start;
+    for _ in 0..625u16 {
+        let (is_term, behind) = statement_at(text, at, place.row)?;
+        if !is_term {
+            return Ok((terms, behind));
+        }
+        let (term, end) = term_at(text, behind, place, &terms)?;
+        terms.push(term)?;
+        at = end;
+    }
+    Err(CodeFault::Limit(LimitOf::Terms, 625))
+}
+
+// The number of `a = number ;`, and the place after it.
+#[tactic(auto, unfolding(crate::specs::Reading::constant_at, crate::specs::TokenReading::after_step))]
+pub fn constant_at(text: &[u8], at: usize) -> Result<(u64, usize), CodeFault>
+    requires { at ≤ length text.now }
+    ensures gives { Gives (λ n. n) result (constant_at text.now at) }
+    ensures within { IfOk result (λ n. (n.0 < 2 ^ 63) × (n.1 ≤ length text.now)) }
+{
+    let at = pair_at(text, at, b"a", b"=")?;
+    let (number, at) = number_at(text, at)?;
+    let at = expect_at(text, at, b";")?;
+    Ok((number, at))
+}
+
+// `= LOW ( SAR ( a`, and the place after it.
+#[tactic(auto, unfolding(crate::specs::Reading::store_begins_at, crate::specs::TokenReading::after_step))]
+fn store_begins_at(text: &[u8], at: usize) -> Result<usize, CodeFault>
+    requires { at ≤ length text.now }
+    ensures gives { Gives (λ n. n) result (store_begins_at text.now at) }
+    ensures within { IfOk result (λ n. n ≤ length text.now) }
+{
+    let at = pair_at(text, at, b"=", b"LOW")?;
+    let at = pair_at(text, at, b"(", b"SAR")?;
+    pair_at(text, at, b"(", b"a")
+}
+
+// The shift and the width of `= LOW ( SAR ( a , shift ) , width ) ;`, and the place after it.
+#[tactic(auto, unfolding(crate::specs::Reading::store_at, crate::specs::TokenReading::after_step))]
+pub fn store_at(text: &[u8], at: usize, accumulator: u8) -> Result<(u8, u8, usize), CodeFault>
+    requires place { at ≤ length text.now }
+    requires bits { 16 ≤ accumulator }
+    ensures gives { Gives (λ s. s) result (store_at accumulator text.now at) }
+    ensures within { IfOk result (λ s. (s.0 ≤ 62) × (s.2 ≤ length text.now)) }
+{
+    let at = store_begins_at(text, at)?;
+    let (shift, at) = next_at(text, at, LimitOf::Shift, 0, (accumulator - 1).min(62))?;
+    let at = expect_at(text, at, b")")?;
+    let (width, at) = next_at(text, at, LimitOf::Width, 2, accumulator.min(32))?;
+    let at = pair_at(text, at, b")", b";")?;
+    Ok((shift, width, at))
+}
+
+// Half of the last place that a right shift drops.
+fn constant_of(shift: u8) -> u64
+    requires { shift ≤ 62 }
+    ensures value { result ≡ constant_of shift }
+    ensures small { result < 2 ^ 63 }
+{
+    match shift {
+        0 => 0,
+        shift => 1 << (shift - 1),
+    }
+}
+
+// A row's constant is the one that its shift demands.
+pub fn checked_constant(row: u8, got: u64, shift: u8) -> Result<(), CodeFault>
+    requires number { got < 2 ^ 63 }
+    requires shift { shift ≤ 62 }
+    ensures { Gives (λ _. tt) result (checked_constant row got shift) }
+{
+    let wanted = constant_of(shift);
+    if got == wanted {
+        Ok(())
+    } else {
+        Err(CodeFault::Rounding(row, got as i64, wanted as i64))
+    }
+}

@@ -1,0 +1,10 @@
+//! The equation systems of the four forms of a filter, built from their coefficients.
+#![tactic(auto)]
+
+mod systems;
+mod terms;
+#[cfg(test)]
+mod tests;
+
+pub use systems::{cascade_system, ladder_system, space_system, transfer_system};
+pub use terms::Space;

@@ -1,0 +1,72 @@
+ghost use Rattle.std.specs.Prelude.{◌≡◌, ◌≢◌, Ok, IfOk, IsTrue, MatchResult};
+ghost use Rattle.fx_io.specs.Causes.{Rose};
+ghost use Rattle.fx_io.specs.declared.shelf.IoFault.TheVariants.{NoMemory};
+ghost use Rattle.fx_tool.specs.Answer.{says};
+ghost use Rattle.fx_tool.specs.Clauses.{Gives};
+ghost use Rattle.fx_tool.specs.Status.{is_spoken, IsBuiltStatus};
+
+use crate::status::Status;
+use crate::writing::put_all;
+use fx_io::{IoFault, Sink};
+use std::alloc::{AllocError, Global};
+use std::marker::Model;
+
+/// How a run ends before the first byte of its text is put: a status, and the whole text.
+#[derive(Drop)]
+pub struct Ending {
+    status: Status,
+    text: Vec<u8>,
+}
+
+impl Model for Ending {
+    ghost use Rattle.fx_tool.specs.Answer.{Answer};
+    ghost use Rattle.fx_tool.specs.Ending.{answer_of, HasText};
+
+    ghost Value = { Answer };
+
+    ghost view = { answer_of };
+
+    ghost invariant = { HasText };
+}
+
+impl Ending {
+    /// This status with this text.
+    pub fn new(status: Status, text: Vec<u8>) -> Ending
+        requires { IsTrue (is_spoken status) }
+        ensures { result ≡ says status text.items }
+    {
+        Ending { status, text }
+    }
+
+    /// This status with this line.
+    pub fn line(alloc: Global, status: Status, line: &str) -> Result<Ending, AllocError>
+        requires { IsTrue (is_spoken status) }
+        ensures { IfOk result (λ e. e ≡ says status line.now) }
+    {
+        Ok(Ending::new(status, Vec::from_slice(alloc, line.as_bytes())?))
+    }
+
+    /// Puts the text, and ends with the status.
+    pub fn put<K: Sink>(&self, out: &mut K) -> Status
+        ensures gives { Gives self.now result (K.told out.old) (K.told out.new) }
+        ensures spoken { result ≢ Status.ReadFault }
+        ensures only { IsBuiltStatus result }
+        ensures cause { result ≡ Status.WriteFault → Rose (K.faults out.old) (K.faults out.new) }
+    {
+        match put_all(out, &self.text) {
+            Ok(()) => self.status,
+            Err(IoFault::Failed) => Status::WriteFault,
+            Err(IoFault::NoMemory) => Status::NoMemory,
+        }
+    }
+}
+
+/// An ending, or want of memory as a fault of the run.
+pub fn ended(ending: Result<Ending, AllocError>) -> Result<Ending, IoFault>
+    ensures { MatchResult result (λ e. ending ≡ Ok e) (λ fault. fault ≡ NoMemory) }
+{
+    match ending {
+        Ok(ending) => Ok(ending),
+        Err(_) => Err(IoFault::NoMemory),
+    }
+}

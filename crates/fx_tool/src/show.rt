@@ -1,0 +1,53 @@
+ghost use Rattle.std.specs.Prelude.{◌≡◌, ◌≢◌, IfOk, IsTrue};
+ghost use Rattle.fx_files.specs.Reading.{filter_of_bytes};
+ghost use Rattle.fx_files.specs.declared.fault.FilterFault.TheVariants.{NoMemory};
+ghost use Rattle.fx_lines.specs.FilterFault.{filter_fault_line};
+ghost use Rattle.fx_tool.specs.Answer.{file_limit, says, show_answer, shown};
+ghost use Rattle.fx_tool.specs.Clauses.{WhereTold};
+ghost use Rattle.fx_tool.specs.Reading.{OnlyReads, read_calls};
+
+use crate::ending::{Ending, ended};
+use crate::reading::{FILE_LIMIT, read_file};
+use crate::status::Status;
+use fx_files::{FilterFault, read_filter};
+use fx_io::{IoFault, Shelf};
+use fx_lines::{filter_fault_line, shown_filter};
+use std::alloc::{AllocError, Global};
+
+// A refused filter ends the run with its line.
+fn refused(alloc: Global, fault: &FilterFault) -> Result<Ending, AllocError>
+    ensures answer { IfOk result (λ e. e ≡ says Status.BadFilter (filter_fault_line fault.now)) }
+    ensures fault { IfOk result (λ e. fault.now ≢ NoMemory) }
+{
+    if let FilterFault::NoMemory = fault {
+        return Err(AllocError);
+    }
+    Ok(Ending::new(Status::BadFilter, filter_fault_line(alloc, fault)?))
+}
+
+// How a filter's bytes end: it is shown, or its first fault is told.
+fn shown(alloc: Global, bytes: &[u8]) -> Result<Ending, AllocError>
+    ensures { IfOk result (λ e. shown (filter_of_bytes bytes.now) ≡ e) }
+{
+    match read_filter(alloc, bytes) {
+        Ok(filter) => Ok(Ending::new(Status::Done, shown_filter(alloc, &filter)?)),
+        Err(fault) => refused(alloc, &fault),
+    }
+}
+
+/// Reads a filter and shows it.
+///
+/// # Errors
+///
+/// `Failed` only where the shelf's count of read faults rose.
+pub fn show<S: Shelf>(alloc: Global, filter: &str, shelf: &mut S) -> Result<Ending, IoFault>
+    requires { IsTrue (S.readable shelf.old filter.now) }
+
+    ensures answer { IfOk result (λ e. WhereTold (S.files shelf.old) (λ files. show_answer files filter.now ≡ e)) }
+    ensures shelf { OnlyReads S.files S.read_faults S.place_faults S.calls S.readable (read_calls file_limit (S.files shelf.old) filter.now) shelf.old shelf.new result }
+{
+    match read_file(alloc, shelf, filter, FILE_LIMIT)? {
+        Some(bytes) => ended(shown(alloc, &bytes)),
+        None => ended(Ending::line(alloc, Status::TooLong, "too long FILTER\n")),
+    }
+}

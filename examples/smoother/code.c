@@ -1,0 +1,11 @@
+#include "fixif.h"
+STEP(32, 1, 1, 1)
+{
+  IN(u0, 16);
+  a = 2;
+  a += MUL(3, s0, 0);
+  a += MUL(1, u0, 0);
+  r0 = LOW(SAR(a, 2), 16);
+  OUT(0, r0);
+  s0 = r0;
+}
