@@ -1,3 +1,4 @@
 pub mod Marks
 pub mod PerCall
+pub mod Runs
 pub mod Words

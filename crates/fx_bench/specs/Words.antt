@@ -4,7 +4,7 @@ use Rattle.std.specs.String.{string_bytes}
 use Rattle.std.specs.Str.{bytes_eq}
 use Rattle.fx_nums.specs.Whole.{whole_in}
 use Rattle.fx_bench.specs.declared.words.Bench.{Bench}
-use Rattle.fx_bench.specs.declared.words.Bench.TheVariants.{Decimal}
+use Rattle.fx_bench.specs.declared.words.Bench.TheVariants.{Decimal, Machine}
 use Rattle.fx_bench.specs.declared.words.Asked.{Asked}
 use Rattle.fx_bench.specs.declared.words.Asked.TheVariants.{Nothing, Rounds, Unknown}
 
@@ -14,7 +14,7 @@ texts words = map (λ w. string_bytes w) words
 
 -- the bench of this name
 abbrev pub bench_named : List ℕ → Option Bench
-bench_named word = if bytes_eq word (codes "decimal") then Some Decimal else None
+bench_named word = if bytes_eq word (codes "decimal") then Some Decimal else if bytes_eq word (codes "machine") then Some Machine else None
 
 -- a number with nothing behind it, where it is not 0
 abbrev pub whole_rounds : Option (ℕ × List ℕ) → Option ℕ

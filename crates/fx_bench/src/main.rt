@@ -2,6 +2,7 @@
 #![tactic(auto)]
 
 mod decimal;
+mod machine;
 mod per_call;
 mod words;
 
@@ -27,8 +28,12 @@ fn main(rt: HostRuntime) -> io::Result<ExitCode> {
             decimal::bench(&rt, rounds)?;
             Ok(ExitCode::SUCCESS)
         }
+        Asked::Rounds(Bench::Machine, moments) => {
+            machine::bench(&rt, rt.alloc(), moments)?;
+            Ok(ExitCode::SUCCESS)
+        }
         Asked::Unknown => {
-            eprintln!(rt; "usage: fx_bench [decimal ROUNDS]")?;
+            eprintln!(rt; "usage: fx_bench [decimal ROUNDS | machine MOMENTS]")?;
             Ok(ExitCode::from(2))
         }
     }

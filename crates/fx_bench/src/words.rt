@@ -10,6 +10,8 @@ use fx_nums::whole_at;
 pub enum Bench {
     /// Numerals read, and values printed.
     Decimal,
+    /// Steps of machines.
+    Machine,
 }
 
 /// What the words ask for.
@@ -17,7 +19,7 @@ pub enum Bench {
 pub enum Asked {
     /// No bench.
     Nothing,
-    /// A bench, and this many rounds over its tables.
+    /// A bench, and this many rounds over its tables, or moments of its programs.
     Rounds(Bench, u32),
     /// What this program does not have.
     Unknown,
@@ -26,10 +28,10 @@ pub enum Asked {
 fn bench_named(word: &str) -> Option<Bench>
     ensures { result ≡ bench_named word.now }
 {
-    if word == "decimal" {
-        Some(Bench::Decimal)
-    } else {
-        None
+    match word {
+        "decimal" => Some(Bench::Decimal),
+        "machine" => Some(Bench::Machine),
+        _ => None,
     }
 }
 
@@ -65,13 +67,24 @@ mod tests {
     use std::alloc::{AllocError, Global};
     use std::test::Fail;
 
-    fn is_decimal(alloc: Global, words: &[&str], count: u32) -> Result<bool, AllocError> {
+    fn asked(alloc: Global, words: &[&str]) -> Result<Asked, AllocError> {
         let mut owned = Vec::new(alloc);
         for word in words {
             owned.push(String::from_str(alloc, word)?)?;
         }
-        match request(&owned) {
+        Ok(request(&owned))
+    }
+
+    fn is_decimal(alloc: Global, words: &[&str], count: u32) -> Result<bool, AllocError> {
+        match asked(alloc, words)? {
             Asked::Rounds(Bench::Decimal, rounds) => Ok(rounds == count),
+            _ => Ok(false),
+        }
+    }
+
+    fn is_machine(alloc: Global, words: &[&str], count: u32) -> Result<bool, AllocError> {
+        match asked(alloc, words)? {
+            Asked::Rounds(Bench::Machine, moments) => Ok(moments == count),
             _ => Ok(false),
         }
     }
@@ -80,6 +93,13 @@ mod tests {
     fn words_that_ask_for_rounds(rt: HostRuntime) -> Result<(), Fail> {
         assert!(rt; is_decimal(rt.alloc(), &["fx_bench", "decimal", "200000"], 200000)?);
         assert!(rt; !is_decimal(rt.alloc(), &["fx_bench", "decimal", "0"], 0)?);
+        Ok(())
+    }
+
+    #[test]
+    fn words_that_ask_for_moments(rt: HostRuntime) -> Result<(), Fail> {
+        assert!(rt; is_machine(rt.alloc(), &["fx_bench", "machine", "1000"], 1000)?);
+        assert!(rt; !is_machine(rt.alloc(), &["fx_bench", "machines", "1000"], 1000)?);
         Ok(())
     }
 }

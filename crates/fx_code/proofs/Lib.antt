@@ -1,6 +1,7 @@
 mod Adding
 mod Bits
 mod FirstFault
+pub mod Fitting
 mod Following
 mod Kept
 mod LaterInputs

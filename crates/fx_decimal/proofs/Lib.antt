@@ -1,5 +1,5 @@
-mod Digits
-mod KeptLaws
+pub mod Digits
+pub mod KeptLaws
 mod Places
-mod ReadingLaws
+pub mod ReadingLaws
 mod Units

@@ -136,7 +136,7 @@ parts_stand text p h =
 digit_test : (c : ℕ) → IsDigit c → is_ascii_digit c ≡ true
 digit_test c h = rw (le-leb 48 c h.0, le-leb c 57 h.1) refl
 
-front_again : (ds rest : List ℕ) → AllByRecursion IsDigit ds → begins_with_digit rest ≡ false → front_digits (ds ++ rest) ≡ ds
+pub front_again : (ds rest : List ℕ) → AllByRecursion IsDigit ds → begins_with_digit rest ≡ false → front_digits (ds ++ rest) ≡ ds
 front_again [] [] all h = refl
 front_again [] (c ∷ cs) all h = rw (take_while-cons is_ascii_digit c cs, h) refl
 front_again (c ∷ cs) rest all h = rw (take_while-cons is_ascii_digit c (cs ++ rest), digit_test c all.0) (ap (λ (t : List ℕ). c ∷ t) (front_again cs rest all.1 h))

@@ -1,6 +1,5 @@
 pub mod Bytes
 pub mod CodeLaws
-pub mod Fitting
 pub mod Lengths
 pub mod Lines
 pub mod Loops

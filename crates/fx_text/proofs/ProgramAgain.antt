@@ -27,7 +27,7 @@ use Rattle.fx_text.specs.Reading.{head_at, input_at, is_ahead, term_at, statemen
 use Rattle.fx_text.proofs.TokenLaws.{After, after_bind, after_ok, expect_again}
 use Rattle.fx_text.proofs.NumberLaws.{due_again}
 use Rattle.fx_text.proofs.PartLaws.{HeadFits, head_again, input_again, IsBelow, SourcePasses, TermPasses, term_again, statement_of_term, statement_of_store, constant_again, stored, store_again, output_again, end_read}
-use Rattle.fx_text.proofs.Fitting.{ReadOnce, distinct_once, start_passes, row_passes, output_passes}
+use Rattle.fx_code.proofs.Fitting.{ReadOnce, distinct_once, start_passes, row_passes, output_passes}
 
 -- ---- steps
 

@@ -21,7 +21,7 @@ use Rattle.fx_text.specs.Reading.{input_more, terms_at, place_of, unless_fault, 
 use Rattle.fx_text.proofs.TokenLaws.{Sound, sound_bind, sound_ok, sound_err, sound_if, Back, back_then, expect_sound}
 use Rattle.fx_text.proofs.NumberLaws.{due_sound}
 use Rattle.fx_text.proofs.PartLaws.{HeadFits, HeadRead, head_spelled, head_sound, input_spelled, input_sound, term_sound, statement_sound, constant_sound, stored, store_sound, output_spelled, output_sound, end_sound}
-use Rattle.fx_text.proofs.Fitting.{start_fits, row_added, output_added}
+use Rattle.fx_code.proofs.Fitting.{start_fits, row_added, output_added}
 
 -- ---- inputs
 

@@ -1,5 +1,5 @@
 -- Status 0 is the answer only where the three files read and all inequalities hold; then the headline follows.
-use Rattle.std.proofs.Common.{◌≡◌, inl, inr, ◌∙◌, ℕ, zero, suc, ◌<◌, ◌==◌, ◌||◌, not, min, Bool, true, false, List, length, codes, Option, Some, None, IsSomeAnd, Result, Ok, Err, refl, sym, ap, subst, arith, nat_le, cond}
+use Rattle.std.proofs.Common.{◌≡◌, inl, inr, ◌∙◌, ℕ, Bool, true, false, List, length, codes, Option, Some, None, IsSomeAnd, Result, Ok, Err, refl, sym, ap, subst, nat_le, cond}
 use Rattle.std.specs.FinMap.{get}
 use Rattle.fx_io.specs.Shelf.{Files}
 use Rattle.fx_files.specs.Reading.{filter_of_bytes}

@@ -1,18 +1,16 @@
 -- A plain numeral is read exactly where its text stands.
-use Rattle.std.proofs.Common.{◌≡◌, ◌-◌, ◌==◌, ◌&&◌, ◌∙◌, ◌≤ℤ◌, pos, ℕ, Bool, true, false, List, [], ◌∷◌, ◌++◌, codes, length, take, drop, take-append-drop, Option, Some, None, Result, Ok, Err, refl, sym, ap, subst, append_assoc, arith, inl, inr}
-use Rattle.std.proofs.lemmas.Bool.{and_parts, cases_Bool, leb-true, le-leb}
+use Rattle.std.proofs.Common.{◌≡◌, ◌-◌, ◌==◌, ◌&&◌, ◌∙◌, ◌≤ℤ◌, pos, ℕ, Bool, true, false, List, [], ◌∷◌, ◌++◌, codes, length, take, drop, take-append-drop, Option, Some, None, Result, Ok, Err, refl, sym, ap, subst, append_assoc, arith}
+use Rattle.std.proofs.lemmas.Bool.{and_parts, leb-true, le-leb}
 use Rattle.std.proofs.lemmas.Bool.Decides.{nat_tests}
 use Rattle.std.proofs.lemmas.List.{drop_at, length-append, take_at}
-use Rattle.std.proofs.lemmas.List.Folds.{length-prefix_len}
-use Rattle.std.proofs.lemmas.List.Sums.{take_while-cons}
 use Rattle.std.proofs.lemmas.Option.{cond_some, same_Some}
-use Rattle.std.specs.Char.{is_ascii_digit}
-use Rattle.std.specs.List.{AllByRecursion}
 use Rattle.std.specs.Prelude.{IfOk, IfSome, nat_le, option_map}
 use Rattle.fx_nums.specs.Fraction.{Fraction}
 use Rattle.fx_nums.specs.Whole.{begins_with_digit}
+use Rattle.fx_decimal.proofs.Digits.{front_all, front_taken}
+use Rattle.fx_decimal.proofs.ReadingLaws.{front_again}
 use Rattle.fx_decimal.specs.Faults.{front_digits, numeral}
-use Rattle.fx_decimal.specs.Numeral.{IsDigit, after_text}
+use Rattle.fx_decimal.specs.Numeral.{after_text}
 use Rattle.fx_decimal.specs.Printed.{minus_text}
 use Rattle.fx_decimal.specs.declared.fault.DecimalFault.{DecimalFault}
 use Rattle.fx_tool.specs.Numeral.{AreFewDigits, IsAfter, IsPlain, Numeral, PlainLaw, numeral_text, numeral_value}
@@ -22,21 +20,6 @@ use Rattle.fx_tool.proofs.PlainLaws.{digits_up, value_of}
 use Rattle.fx_tool.proofs.TextLaws.{bind_some, sign_stands, text_stands, text_again}
 
 -- ---- digits
-
-is_digit : (c : ℕ) → is_ascii_digit c ≡ true → IsDigit c
-is_digit c h =
-    let (low, top) = and_parts (nat_le 48 c) (nat_le c 57) h in
-    (leb-true 48 c low, leb-true c 57 top)
-
-front_all : (text : List ℕ) → AllByRecursion IsDigit (front_digits text)
-front_all [] = tt
-front_all (c ∷ cs) = elim (cases_Bool (is_ascii_digit c)) [
-  | inl digit ↦ rw (take_while-cons, digit) (is_digit c digit, front_all cs)
-  | inr other ↦ rw (take_while-cons, other) tt
-]
-
-front_taken : (text : List ℕ) → take (length (front_digits text)) text ≡ front_digits text
-front_taken text = ap (λ (n : ℕ). take n text) (length-prefix_len is_ascii_digit text)
 
 record DigitsStand (text rest : List ℕ) : Type 0 where
   digits : List ℕ
@@ -56,14 +39,6 @@ digits_stand text rest e =
     let (some, few) = and_parts (nat_le 1 n) (nat_le n 6) test in
     subst (DigitsStand text) same
     (record { digits = front_digits text; few = record { some = leb-true 1 n some; few = leb-true n 6 few; all = front_all text }; stands = front_stands text })
-
-digit_test : (c : ℕ) → IsDigit c → is_ascii_digit c ≡ true
-digit_test c h = rw (le-leb 48 c h.0, le-leb c 57 h.1) refl
-
-front_again : (digits rest : List ℕ) → AllByRecursion IsDigit digits → begins_with_digit rest ≡ false → front_digits (digits ++ rest) ≡ digits
-front_again [] [] all h = refl
-front_again [] (c ∷ cs) all h = rw (take_while-cons is_ascii_digit c cs, h) refl
-front_again (c ∷ cs) rest all h = rw (take_while-cons is_ascii_digit c (cs ++ rest), digit_test c all.0) (ap (λ (t : List ℕ). c ∷ t) (front_again cs rest all.1 h))
 
 digits_again : (digits rest : List ℕ) → AreFewDigits digits → begins_with_digit rest ≡ false → digits_in (digits ++ rest) ≡ Some rest
 unfolding digits_in

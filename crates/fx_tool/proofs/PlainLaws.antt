@@ -10,6 +10,7 @@ use Rattle.std.specs.List.{AllByRecursion}
 use Rattle.std.specs.Prelude.{IfOk, nat_lt}
 use Rattle.fx_nums.specs.Fraction.{Fraction}
 use Rattle.fx_nums.specs.declared.fraction.Den.TheVariants.{Ten}
+use Rattle.fx_decimal.proofs.KeptLaws.{all_on}
 use Rattle.fx_decimal.specs.Faults.{TextLaw, after_in, and_then, digits_in, ended, exponent_in, is_end, numeral, parts_in, sign_in}
 use Rattle.fx_decimal.specs.Numeral.{Bare, Exponent, IsDigit, IsNumeral, Minus, Parts, Sign, after_digits, after_text, all_digits, bounded, digits_value, exponent_value, is_minus, limited, meaning, number_from, parts_text, scaled, signed, without_zeros}
 use Rattle.fx_decimal.specs.Printed.{minus_text}
@@ -115,10 +116,6 @@ value_is negative ds k few small =
     limited_is negative kept.0 kept.1 k few (rw number at small)
 
 -- ---- a plain numeral
-
-all_on : (a b : List ℕ) → AllByRecursion IsDigit a → AllByRecursion IsDigit b → AllByRecursion IsDigit (a ++ b)
-all_on [] b p q = q
-all_on (c ∷ cs) b p q = (p.0, all_on cs b p.1 q)
 
 abbrev sign_of : Bool → Sign
 sign_of true = Minus

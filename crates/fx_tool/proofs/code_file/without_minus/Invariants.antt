@@ -1,4 +1,4 @@
-use Rattle.std.proofs.Common.{◌≡◌, ◌==◌, not, filter, ℕ, List, ◌++◌, drop}
+use Rattle.std.proofs.Common.{◌≡◌, ◌++◌, drop}
 use Rattle.fx_tool.specs.ConstantCode.{without_minus}
 use Rattle.fx_tool.proofs.code_file.without_minus.Given as goal
 

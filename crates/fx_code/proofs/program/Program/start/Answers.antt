@@ -1,6 +1,6 @@
 use Rattle.std.proofs.Common.{◌∙◌, sym}
 use Rattle.fx_code.proofs.FirstFault.{start-told}
-use Rattle.fx_code.proofs.Kept.{start_fits}
+use Rattle.fx_code.proofs.Fitting.{start_fits}
 use Rattle.fx_code.proofs.program.Program.start.Goals as goal
 
 pub returns-in-Some-clause-fault : goal.returns-in-Some-clause-fault

@@ -1,0 +1,11 @@
+mod Ago
+mod Exact
+mod Following
+mod Lifting
+mod Places
+mod Rising
+mod Selecting
+mod WithoutFeedback
+mod Feedback
+mod Unique
+mod Transfer

@@ -1,0 +1,119 @@
+//! The four direct forms.
+
+ghost use Rattle.std.specs.Prelude.{◌≡◌, ◌≤◌, ◌<◌, ◌+◌, [], ◌∷◌, length, IfOk};
+ghost use Rattle.fx_eqs.specs.Expanded.{one};
+ghost use Rattle.fx_eqs.specs.Textbook.{tf_equations};
+ghost use Rattle.fx_sif.specs.SameOutputs.{HasOutputs};
+ghost use Rattle.fx_direct.specs.Forms.{df1_form, df2_form, df2t_form, fir_form};
+ghost use Rattle.fx_direct.specs.Laws.{NeverRefused};
+
+use crate::entries::{
+    add, against, coefficient, delays, first_state, greater, numerator, one, transposed_states,
+};
+use crate::laws::{
+    df1_is_never_refused, df2_is_never_refused, df2t_is_never_refused, fir_is_never_refused,
+    fir_keeps_the_outputs,
+};
+use fx_nums::Frac;
+use fx_sif::{Block, Entry, Sif, SifFault, Sizes};
+use std::alloc::{AllocError, Global};
+
+// The form of entries that are never refused.
+fn form(alloc: Global, sizes: Sizes, entries: &[Entry]) -> Result<Sif, AllocError>
+    requires { NeverRefused (record { sizes = sizes; entries = entries.now }) }
+    ensures { IfOk result (λ s. s ≡ record { sizes = sizes; entries = entries.now }) }
+{
+    match Sif::build(alloc, sizes, entries) {
+        Ok(form) => Ok(form),
+        Err(SifFault::NoMemory) => Err(AllocError),
+        Err(_) => unreachable!(),
+    }
+}
+
+// One input and one output, with so many intermediate variables and states.
+fn single(t: usize, x: usize) -> Sizes
+    requires { (t < 100) × (x < 100) }
+    ensures { result ≡ record { t = t; x = x; u = 1; y = 1 } }
+{
+    Sizes {
+        t: t as u8,
+        x: x as u8,
+        u: 1,
+        y: 1,
+    }
+}
+
+/// The direct form of a filter without feedback: numerator `b` of 1 to 13 coefficients. It has a state for each earlier
+/// input that it reads, and no intermediate variable. Its error is want of memory.
+pub fn fir(alloc: Global, b: &[Frac]) -> Result<Sif, AllocError>
+    requires low { 1 ≤ length b.now }
+    requires high { length b.now ≤ 13 }
+    ensures value { IfOk result (λ s. s ≡ fir_form b.now) }
+    ensures same { IfOk result (λ s. HasOutputs s (tf_equations b.now (one ∷ []))) }
+{
+    let order = b.len() - 1;
+    let mut entries = Vec::new(alloc);
+    delays(&mut entries, Block::Q, 0, order)?;
+    numerator(&mut entries, Block::S, Block::R, b)?;
+    fir_is_never_refused(b);
+    fir_keeps_the_outputs(b);
+    form(alloc, single(0, order), &entries)
+}
+
+/// The first direct form: numerator `b` and denominator `a` of 1 to 13 coefficients each, the denominator's first being
+/// 1. Its states are the earlier inputs, then the earlier outputs. Its error is want of memory.
+pub fn df1(alloc: Global, b: &[Frac], a: &[Frac]) -> Result<Sif, AllocError>
+    requires numerator_low { 1 ≤ length b.now }
+    requires numerator_high { length b.now ≤ 13 }
+    requires denominator_low { 1 ≤ length a.now }
+    requires denominator_high { length a.now ≤ 13 }
+    ensures { IfOk result (λ s. s ≡ df1_form b.now a.now) }
+{
+    let (inputs, outputs) = (b.len() - 1, a.len() - 1);
+    let mut entries = Vec::new(alloc);
+    numerator(&mut entries, Block::N, Block::M, b)?;
+    against(&mut entries, Block::M, inputs, &a[1..])?;
+    delays(&mut entries, Block::Q, 0, inputs)?;
+    delays(&mut entries, Block::K, inputs, outputs)?;
+    add(&mut entries, Block::L, 0, 0, one())?;
+    df1_is_never_refused(b, a);
+    form(alloc, single(1, inputs + outputs), &entries)
+}
+
+/// The second direct form: numerator `b` and denominator `a` of 1 to 13 coefficients each, the denominator's first being
+/// 1. Its states are the earlier values of its one intermediate variable. Its error is want of memory.
+pub fn df2(alloc: Global, b: &[Frac], a: &[Frac]) -> Result<Sif, AllocError>
+    requires numerator_low { 1 ≤ length b.now }
+    requires numerator_high { length b.now ≤ 13 }
+    requires denominator_low { 1 ≤ length a.now }
+    requires denominator_high { length a.now ≤ 13 }
+    ensures { IfOk result (λ s. s ≡ df2_form b.now a.now) }
+{
+    let order = greater(b.len() - 1, a.len() - 1);
+    let mut entries = Vec::new(alloc);
+    add(&mut entries, Block::N, 0, 0, one())?;
+    against(&mut entries, Block::M, 0, &a[1..])?;
+    delays(&mut entries, Block::K, 0, order)?;
+    numerator(&mut entries, Block::L, Block::R, b)?;
+    df2_is_never_refused(b, a);
+    form(alloc, single(1, order), &entries)
+}
+
+/// The second direct form transposed: numerator `b` and denominator `a` of 1 to 13 coefficients each, the denominator's
+/// first being 1. Its states are sums that are still to be put out. Its error is want of memory.
+pub fn df2t(alloc: Global, b: &[Frac], a: &[Frac]) -> Result<Sif, AllocError>
+    requires numerator_low { 1 ≤ length b.now }
+    requires numerator_high { length b.now ≤ 13 }
+    requires denominator_low { 1 ≤ length a.now }
+    requires denominator_high { length a.now ≤ 13 }
+    ensures { IfOk result (λ s. s ≡ df2t_form b.now a.now) }
+{
+    let order = greater(b.len() - 1, a.len() - 1);
+    let mut entries = Vec::new(alloc);
+    add(&mut entries, Block::N, 0, 0, coefficient(b, 0))?;
+    first_state(&mut entries, order)?;
+    transposed_states(&mut entries, b, a, order)?;
+    add(&mut entries, Block::L, 0, 0, one())?;
+    df2t_is_never_refused(b, a);
+    form(alloc, single(1, order), &entries)
+}

@@ -1,0 +1,14 @@
+//! The direct forms of a transfer function, as filters in implicit form.
+#![tactic(auto)]
+
+mod entries;
+mod forms;
+mod laws;
+#[cfg(test)]
+mod tests;
+
+pub use forms::{df1, df2, df2t, fir};
+pub use laws::{
+    df1_is_never_refused, df2_is_never_refused, df2t_is_never_refused, fir_is_never_refused,
+    fir_keeps_the_outputs,
+};
