@@ -1,4 +1,4 @@
-//! Judges certified fixed-point code for linear filters.
+//! The program: judges certified fixed-point code for linear filters, shows filter files, and runs code on samples.
 #![tactic(auto)]
 
 use fx_io::{DiskShelf, StdoutSink};

@@ -1,8 +1,10 @@
 -- The first fault is never want of memory, so the answer that carries it tells it.
-use Rattle.std.proofs.Common.{◌≡◌, ℕ, ℤ, Bool, true, false, List, [], ◌∷◌, ◌++◌, Option, Some, None}
+use Rattle.std.proofs.Common.{◌≡◌, ℕ, ℤ, Bool, List, [], ◌∷◌, ◌++◌, Option, Some, None, refl}
 use Rattle.std.specs.Option.{option_or}
+use Rattle.fx_math.specs.Faults.{fault_if}
+use Rattle.fx_math.proofs.Faults.{IsTold, none_told, if_told, or_told}
 use Rattle.fx_code.specs.Code.{Row, Code}
-use Rattle.fx_code.specs.Limits.{fault_if, width_fault, start_fault, source_fault, term_fault, terms_fault, row_fault, told}
+use Rattle.fx_code.specs.Limits.{width_fault, start_fault, source_fault, term_fault, terms_fault, row_fault, told}
 use Rattle.fx_code.specs.declared.term.CodeTerm.{CodeTerm}
 use Rattle.fx_code.specs.declared.term.Read.{Read}
 use Rattle.fx_code.specs.declared.term.Read.TheVariants.{Now, Old, In}
@@ -10,51 +12,43 @@ use Rattle.fx_code.specs.declared.fault.LimitOf.{LimitOf}
 use Rattle.fx_code.specs.declared.fault.ProgramFault.{ProgramFault}
 use Rattle.fx_code.specs.declared.fault.ProgramFault.TheVariants.{Limit, Order, Twice}
 
-record IsTold (first : Option ProgramFault) : Type 0 where
-  says : (fault : ProgramFault) → first ≡ Some fault → first ≡ told fault
+no_fault : IsTold told None
+no_fault = none_told told
 
-none_told : IsTold None
-none_told = record { says = λ fault e. cc }
+limit_told : (test : Bool) (what : LimitOf) (number : ℤ) (rest : Option ProgramFault) → IsTold told rest → IsTold told (fault_if test (Limit what number) rest)
+limit_told test what number rest r = if_told told test (Limit what number) rest refl r
 
-limit-told : (test : Bool) (what : LimitOf) (number : ℤ) (rest : Option ProgramFault) → IsTold rest → IsTold (fault_if test (Limit what number) rest)
-limit-told true what number rest r = record { says = λ other same. cc }
-limit-told false what number rest r = r
+order_told : (test : Bool) (n : ℕ) (rest : Option ProgramFault) → IsTold told rest → IsTold told (fault_if test (Order n) rest)
+order_told test n rest r = if_told told test (Order n) rest refl r
 
-order-told : (test : Bool) (n : ℕ) (rest : Option ProgramFault) → IsTold rest → IsTold (fault_if test (Order n) rest)
-order-told true n rest r = record { says = λ other same. cc }
-order-told false n rest r = r
+twice_told : (test : Bool) (n : ℕ) (rest : Option ProgramFault) → IsTold told rest → IsTold told (fault_if test (Twice n) rest)
+twice_told test n rest r = if_told told test (Twice n) rest refl r
 
-twice-told : (test : Bool) (n : ℕ) (rest : Option ProgramFault) → IsTold rest → IsTold (fault_if test (Twice n) rest)
-twice-told true n rest r = record { says = λ other same. cc }
-twice-told false n rest r = r
+either_first : (first rest : Option ProgramFault) → IsTold told first → IsTold told rest → IsTold told (option_or first rest)
+either_first first rest f r = or_told told first rest f r
 
-option_or-told : (first rest : Option ProgramFault) → IsTold first → IsTold rest → IsTold (option_or first rest)
-option_or-told None rest f r = r
-option_or-told (Some fault) rest f r = f
+widths_first : (widths : List ℕ) → IsTold told (width_fault widths)
+widths_first [] = no_fault
+widths_first (w ∷ ws) = limit_told _ _ _ _ (widths_first ws)
 
-width-told : (widths : List ℕ) → IsTold (width_fault widths)
-width-told [] = none_told
-width-told (w ∷ ws) = limit-told _ _ _ _ (width-told ws)
+source_first : (n inputs : ℕ) (from : Read) (rest : Option ProgramFault) → IsTold told rest → IsTold told (source_fault n inputs from rest)
+source_first n inputs (Now i) rest r = limit_told _ _ _ _ (order_told _ _ _ r)
+source_first n inputs (Old i) rest r = limit_told _ _ _ _ r
+source_first n inputs (In j) rest r = limit_told _ _ _ _ r
 
-source-told : (n inputs : ℕ) (from : Read) (rest : Option ProgramFault) → IsTold rest → IsTold (source_fault n inputs from rest)
-source-told n inputs (Now i) rest r = limit-told _ _ _ _ (order-told _ _ _ r)
-source-told n inputs (Old i) rest r = limit-told _ _ _ _ r
-source-told n inputs (In j) rest r = limit-told _ _ _ _ r
+term_first : (n inputs shift : ℕ) (earlier : List CodeTerm) (t : CodeTerm) → IsTold told (term_fault n inputs shift earlier t)
+term_first n inputs shift earlier t =
+    search (limit_told, source_first, twice_told, no_fault) depth 9
 
-term-told : (n inputs shift : ℕ) (earlier : List CodeTerm) (t : CodeTerm) → IsTold (term_fault n inputs shift earlier t)
-term-told n inputs shift earlier t =
-    search (limit-told, source-told, twice-told, none_told) depth 9
+terms_first : (n inputs shift : ℕ) (earlier ts : List CodeTerm) → IsTold told (terms_fault n inputs shift earlier ts)
+terms_first n inputs shift earlier [] = no_fault
+terms_first n inputs shift earlier (t ∷ ts) = either_first _ _ (term_first n inputs shift earlier t) (terms_first n inputs shift (earlier ++ t ∷ []) ts)
 
-terms-told : (n inputs shift : ℕ) (earlier ts : List CodeTerm) → IsTold (terms_fault n inputs shift earlier ts)
-terms-told n inputs shift earlier [] = none_told
-terms-told n inputs shift earlier (t ∷ ts) =
-    option_or-told _ _ (term-told n inputs shift earlier t) (terms-told n inputs shift (earlier ++ t ∷ []) ts)
+start_first : (accumulator : ℕ) (inputs : List ℕ) → IsTold told (start_fault accumulator inputs)
+start_first accumulator inputs = search (limit_told, widths_first)
 
-start_first : (accumulator : ℕ) (inputs : List ℕ) → IsTold (start_fault accumulator inputs)
-start_first accumulator inputs = search (limit-told, width-told)
-
-row_first : (p : Code) (row : Row) → IsTold (row_fault p row)
-row_first p row = search (limit-told, option_or-told, terms-told, none_told) depth 9
+row_first : (p : Code) (row : Row) → IsTold told (row_fault p row)
+row_first p row = search (limit_told, either_first, terms_first, no_fault) depth 9
 
 pub start-told : (accumulator : ℕ) (inputs : List ℕ) (fault : ProgramFault) → start_fault accumulator inputs ≡ Some fault → start_fault accumulator inputs ≡ told fault
 start-told accumulator inputs = (start_first accumulator inputs).says

@@ -1,6 +1,5 @@
 -- What a program's tests refuse not, fits; and what fits, they refuse not.
-use Rattle.std.proofs.Common.{◌≡◌, ℕ, ◌+◌, ◌-◌, ◌^◌, ◌<◌, ◌≤◌, ◌∙◌, min, Bool, true, false, not, ◌||◌, eqb, List, [], ◌∷◌, ◌++◌, length, All, Option, Some, None, refl, arith, unsigned_abs, nat_lt, nat_le, slice_index_or, inl, inr, append_assoc, length-append}
-use Rattle.std.specs.Option.{option_or}
+use Rattle.std.proofs.Common.{◌≡◌, ℕ, ◌+◌, ◌-◌, ◌^◌, ◌<◌, ◌≤◌, ◌∙◌, min, Bool, false, not, ◌||◌, eqb, List, [], ◌∷◌, ◌++◌, length, All, Option, None, refl, arith, unsigned_abs, nat_lt, nat_le, slice_index_or, inl, inr, append_assoc, length-append}
 use Rattle.std.specs.List.{IsDistinct, AllByRecursion, list_any}
 use Rattle.std.proofs.lemmas.Bool.{cases_lt, or_parts, or_from, ltb-false, le-ltb, lt-leb}
 use Rattle.std.proofs.lemmas.Bool.Decides.{nat_tests}
@@ -9,23 +8,16 @@ use Rattle.std.proofs.lemmas.List.Elements.{All-push, All-nil, All-cons, All-hea
 use Rattle.std.proofs.lemmas.List.Folds.{list_any-append}
 use Rattle.std.proofs.lemmas.List.Sums.{sum_by-append}
 use Rattle.std.proofs.Math.Seq.{get_or-append_seam}
+use Rattle.fx_math.proofs.Faults.{if_none, none_if, or_none}
 use Rattle.fx_code.specs.Code.{Row, Code, weight}
 use Rattle.fx_code.specs.Fits.{TermFits, RowFits, SourceFits, ReadsFit, WidthFits, CodeFits}
-use Rattle.fx_code.specs.Limits.{fault_if, is_outside, width_fault, start_fault, same_source, source_fault, term_fault, terms_fault, term_count, row_fault, output_fault}
+use Rattle.fx_code.specs.Limits.{is_outside, width_fault, start_fault, same_source, source_fault, term_fault, terms_fault, term_count, row_fault, output_fault}
 use Rattle.fx_code.specs.declared.term.CodeTerm.{CodeTerm}
 use Rattle.fx_code.specs.declared.term.Read.{Read}
 use Rattle.fx_code.specs.declared.term.Read.TheVariants.{Now, Old, In}
 use Rattle.fx_code.specs.declared.fault.ProgramFault.{ProgramFault}
 
 -- ---- what no fault means
-
-fault_if-none : (test : Bool) (fault : ProgramFault) (rest : Option ProgramFault) → fault_if test fault rest ≡ None → (test ≡ false) × (rest ≡ None)
-fault_if-none true fault rest e = cc
-fault_if-none false fault rest e = (refl, e)
-
-option_or-none : (first rest : Option ProgramFault) → option_or first rest ≡ None → (first ≡ None) × (rest ≡ None)
-option_or-none None rest e = (refl, e)
-option_or-none (Some fault) rest e = cc
 
 inside_from : (low high n : ℕ) → is_outside low high n ≡ false → (low ≤ n) × (n ≤ high)
 inside_from low high n e =
@@ -38,20 +30,20 @@ not_le a b h = grind (arith, nat_tests)
 width_none : (widths : List ℕ) → width_fault widths ≡ None → All WidthFits widths
 width_none [] e = All-nil WidthFits
 width_none (w ∷ ws) e =
-    let p = fault_if-none _ _ _ e in
+    let p = if_none _ _ _ e in
     let q = inside_from 2 32 w p.0 in
     All-cons WidthFits w ws (record { low = q.0; high = q.1 }) (width_none ws p.1)
 
 source_none : (n inputs : ℕ) (from : Read) (rest : Option ProgramFault) → source_fault n inputs from rest ≡ None → SourceFits n inputs from × (rest ≡ None)
 source_none n inputs (Now i) rest e =
-    let p = fault_if-none _ _ _ e in
-    let q = fault_if-none _ _ _ p.1 in
+    let p = if_none _ _ _ e in
+    let q = if_none _ _ _ p.1 in
     (not_le n i q.0, q.1)
 source_none n inputs (Old i) rest e =
-    let p = fault_if-none _ _ _ e in
+    let p = if_none _ _ _ e in
     (not_le 40 i p.0, p.1)
 source_none n inputs (In j) rest e =
-    let p = fault_if-none _ _ _ e in
+    let p = if_none _ _ _ e in
     (not_le inputs j p.0, p.1)
 
 record TermStands (n inputs shift : ℕ) (earlier : List CodeTerm) (t : CodeTerm) : Type 0 where
@@ -61,11 +53,11 @@ record TermStands (n inputs shift : ℕ) (earlier : List CodeTerm) (t : CodeTerm
 
 term_none : (n inputs shift : ℕ) (earlier : List CodeTerm) (t : CodeTerm) → term_fault n inputs shift earlier t ≡ None → TermStands n inputs shift earlier t
 term_none n inputs shift earlier t e =
-    let left = fault_if-none _ _ _ e in
-    let coefficient = fault_if-none _ _ _ left.1 in
+    let left = if_none _ _ _ e in
+    let coefficient = if_none _ _ _ left.1 in
     let source = source_none n inputs t.from _ coefficient.1 in
-    let once = fault_if-none _ _ _ source.1 in
-    let product = fault_if-none _ _ _ once.1 in
+    let once = if_none _ _ _ source.1 in
+    let product = if_none _ _ _ once.1 in
     let bounds = or_parts _ _ product.0 in
     record {
       fits = record {
@@ -81,7 +73,7 @@ term_none n inputs shift earlier t e =
 terms_fit : (n inputs shift : ℕ) (earlier ts : List CodeTerm) → terms_fault n inputs shift earlier ts ≡ None → All (TermFits shift) ts × All (λ (t : CodeTerm). SourceFits n inputs t.from) ts
 terms_fit n inputs shift earlier [] e = (All-nil (TermFits shift), All-nil (λ (t : CodeTerm). SourceFits n inputs t.from))
 terms_fit n inputs shift earlier (t ∷ ts) e =
-    let p = option_or-none _ _ e in
+    let p = or_none _ _ e in
     let here = term_none n inputs shift earlier t p.0 in
     let rest = terms_fit n inputs shift (earlier ++ t ∷ []) ts p.1 in
     (All-cons (TermFits shift) t ts here.fits rest.0, All-cons (λ (x : CodeTerm). SourceFits n inputs x.from) t ts here.source rest.1)
@@ -94,7 +86,7 @@ fails_at test (b ∷ before) after e h = fails_at test before after e (or_parts 
 apart : (n inputs shift : ℕ) (before after : List CodeTerm) (e : CodeTerm) (ts : List CodeTerm) → terms_fault n inputs shift (before ++ e ∷ after) ts ≡ None → AllByRecursion (λ (t : CodeTerm). same_source e.from t.from ≡ false) ts
 apart n inputs shift before after e [] h = tt
 apart n inputs shift before after e (t ∷ ts) h =
-    let p = option_or-none _ _ h in
+    let p = or_none _ _ h in
     let here = term_none n inputs shift (before ++ e ∷ after) t p.0 in
     let rest : terms_fault n inputs shift (before ++ e ∷ (after ++ t ∷ [])) ts ≡ None = rw append_assoc at p.1 in
     (fails_at (λ x. same_source x.from t.from) before after e here.once, apart n inputs shift before (after ++ t ∷ []) e ts rest)
@@ -103,15 +95,15 @@ once_each : (n inputs shift : ℕ) (earlier ts : List CodeTerm) → terms_fault 
 unfolding IsDistinct
 once_each n inputs shift earlier [] e = tt
 once_each n inputs shift earlier (t ∷ ts) e =
-    let p = option_or-none _ _ e in
+    let p = or_none _ _ e in
     (apart n inputs shift earlier [] t ts p.1, once_each n inputs shift (earlier ++ t ∷ []) ts p.1)
 
 -- ---- what a program keeps
 
 pub start_fits : (accumulator : ℕ) (inputs : List ℕ) → start_fault accumulator inputs ≡ None → CodeFits (record { accumulator = accumulator; inputs = inputs; rows = []; outputs = [] })
 start_fits accumulator inputs e =
-    let first = fault_if-none _ _ _ e in
-    let count = fault_if-none _ _ _ first.1 in
+    let first = if_none _ _ _ e in
+    let count = if_none _ _ _ first.1 in
     let within = inside_from 1 4 (length inputs) count.0 in
     let h : not (eqb accumulator 16 || (eqb accumulator 32 || eqb accumulator 64)) ≡ false = first.0 in
     record {
@@ -141,11 +133,11 @@ push_cases xs x d P each last n h =
 pub row_added : (p : Code) (row : Row) → CodeFits p → row_fault p row ≡ None → CodeFits (record p { rows = p.rows ++ row ∷ [] })
 row_added p row fits e =
     let n = length p.rows in
-    let count = fault_if-none _ _ _ e in
-    let width = fault_if-none _ _ _ count.1 in
-    let shift = fault_if-none _ _ _ width.1 in
-    let terms = option_or-none _ _ shift.1 in
-    let total = fault_if-none _ _ _ terms.1 in
+    let count = if_none _ _ _ e in
+    let width = if_none _ _ _ count.1 in
+    let shift = if_none _ _ _ width.1 in
+    let terms = or_none _ _ shift.1 in
+    let total = if_none _ _ _ terms.1 in
     let below : n + 1 ≤ 40 = ltb-false 40 (n + 1) count.0 in
     let within = inside_from 2 (min 32 p.accumulator) row.width width.0 in
     let shifted : row.shift ≤ min 62 (p.accumulator - 1) = ltb-false (min 62 (p.accumulator - 1)) row.shift shift.0 in
@@ -177,8 +169,8 @@ row_added p row fits e =
 
 pub output_added : (p : Code) (i : ℕ) → CodeFits p → output_fault p i ≡ None → CodeFits (record p { outputs = p.outputs ++ i ∷ [] })
 output_added p i fits e =
-    let count = fault_if-none _ _ _ e in
-    let row = fault_if-none _ _ _ count.1 in
+    let count = if_none _ _ _ e in
+    let row = if_none _ _ _ count.1 in
     let few : length p.outputs + 1 ≤ 4 = ltb-false 4 (length p.outputs + 1) count.0 in
     let longer = length-append p.outputs (i ∷ []) in
     record {
@@ -198,9 +190,6 @@ output_added p i fits e =
 
 -- ---- what fits has no fault
 
-no_fault : (test : Bool) (fault : ProgramFault) (rest : Option ProgramFault) → test ≡ false → rest ≡ None → fault_if test fault rest ≡ None
-no_fault test fault rest t r = rw (t, r) refl
-
 not_outside : (low high n : ℕ) → low ≤ n → n ≤ high → is_outside low high n ≡ false
 not_outside low high n above below = or_from _ _ (le-ltb n low above) (le-ltb high n below)
 
@@ -208,18 +197,18 @@ widths_pass : (widths : List ℕ) → All WidthFits widths → width_fault width
 widths_pass [] h = refl
 widths_pass (w ∷ ws) h =
     let here = All-head WidthFits w ws h in
-    no_fault _ _ _ (not_outside 2 32 w here.low here.high) (widths_pass ws (All-tail WidthFits w ws h))
+    none_if _ _ _ (not_outside 2 32 w here.low here.high) (widths_pass ws (All-tail WidthFits w ws h))
 
 pub start_passes : (p : Code) → CodeFits p → start_fault p.accumulator p.inputs ≡ None
 start_passes p fits =
     let bits = fits.accumulator in
     let known : not (eqb p.accumulator 16 || (eqb p.accumulator 32 || eqb p.accumulator 64)) ≡ false = grind (arith, nat_tests, bits) in
-    no_fault _ _ _ known (no_fault _ _ _ (not_outside 1 4 (length p.inputs) fits.inputs_low fits.inputs_high) (widths_pass p.inputs fits.input_widths))
+    none_if _ _ _ known (none_if _ _ _ (not_outside 1 4 (length p.inputs) fits.inputs_low fits.inputs_high) (widths_pass p.inputs fits.input_widths))
 
 source_passes : (n inputs : ℕ) (from : Read) (rest : Option ProgramFault) → n ≤ 40 → SourceFits n inputs from → rest ≡ None → source_fault n inputs from rest ≡ None
-source_passes n inputs (Now i) rest few h r = no_fault _ _ _ (lt-leb 40 i (omega arith)) (no_fault _ _ _ (lt-leb n i h) r)
-source_passes n inputs (Old i) rest few h r = no_fault _ _ _ (lt-leb 40 i h) r
-source_passes n inputs (In j) rest few h r = no_fault _ _ _ (lt-leb inputs j h) r
+source_passes n inputs (Now i) rest few h r = none_if _ _ _ (lt-leb 40 i (omega arith)) (none_if _ _ _ (lt-leb n i h) r)
+source_passes n inputs (Old i) rest few h r = none_if _ _ _ (lt-leb 40 i h) r
+source_passes n inputs (In j) rest few h r = none_if _ _ _ (lt-leb inputs j h) r
 
 -- none of the terms reads a source of an earlier one, nor of one before it
 abbrev pub ReadOnce : List CodeTerm → List CodeTerm → Type 0
@@ -255,21 +244,21 @@ terms_pass n inputs shift earlier (t ∷ ts) few fits sources once =
     let source = All-head (λ (x : CodeTerm). SourceFits n inputs x.from) t ts sources in
     let product = or_from _ _ (lt-leb (2 ^ 62) (unsigned_abs (weight t)) here.product) (lt-leb (2 ^ (24 + shift)) (unsigned_abs (weight t)) here.scaled) in
     let first : term_fault n inputs shift earlier t ≡ None =
-    no_fault _ _ _ (le-ltb 62 t.left here.left) (
-    no_fault _ _ _ (lt-leb (2 ^ 62) (unsigned_abs t.coef) here.coefficient) (
+    none_if _ _ _ (le-ltb 62 t.left here.left) (
+    none_if _ _ _ (lt-leb (2 ^ 62) (unsigned_abs t.coef) here.coefficient) (
     source_passes n inputs t.from _ few source (
-    no_fault _ _ _ once.0 (
-    no_fault _ _ _ product refl)))) in
+    none_if _ _ _ once.0 (
+    none_if _ _ _ product refl)))) in
     rw first (terms_pass n inputs shift (earlier ++ t ∷ []) ts few (All-tail (TermFits shift) t ts fits) (All-tail (λ (x : CodeTerm). SourceFits n inputs x.from) t ts sources) once.1)
 
 pub row_passes : (p : Code) (row : Row) → length p.rows < 40 → 16 ≤ p.accumulator → RowFits p.accumulator row → ReadsFit (length p.rows) (length p.inputs) row → term_count p.rows + length row.terms ≤ 624 → row_fault p row ≡ None
 row_passes p row few wide fits reads terms =
     let n = length p.rows in
-    no_fault _ _ _ (le-ltb 40 (n + 1) (omega arith)) (
-    no_fault _ _ _ (not_outside 2 (min 32 p.accumulator) row.width fits.width_low (omega (arith, fits.width_high, fits.width_kept))) (
-    no_fault _ _ _ (le-ltb (min 62 (p.accumulator - 1)) row.shift (omega (arith, fits.shift_high, fits.shift_kept))) (
+    none_if _ _ _ (le-ltb 40 (n + 1) (omega arith)) (
+    none_if _ _ _ (not_outside 2 (min 32 p.accumulator) row.width fits.width_low (omega (arith, fits.width_high, fits.width_kept))) (
+    none_if _ _ _ (le-ltb (min 62 (p.accumulator - 1)) row.shift (omega (arith, fits.shift_high, fits.shift_kept))) (
     rw (terms_pass n (length p.inputs) row.shift [] row.terms (omega arith) fits.terms reads.sources (distinct_once row.terms reads.once)) (
-    no_fault _ _ _ (le-ltb 624 _ terms) refl))))
+    none_if _ _ _ (le-ltb 624 _ terms) refl))))
 
 pub output_passes : (p : Code) (i : ℕ) → length p.outputs < 4 → i < length p.rows → output_fault p i ≡ None
-output_passes p i few below = no_fault _ _ _ (le-ltb 4 (length p.outputs + 1) (omega arith)) (no_fault _ _ _ (lt-leb (length p.rows) i below) refl)
+output_passes p i few below = none_if _ _ _ (le-ltb 4 (length p.outputs + 1) (omega arith)) (none_if _ _ _ (lt-leb (length p.rows) i below) refl)

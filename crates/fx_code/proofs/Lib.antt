@@ -6,6 +6,9 @@ mod Following
 mod Kept
 mod LaterInputs
 mod Marking
+mod NetRun
+mod NetTerms
+mod Placing
 mod Reaching
 mod Running
 mod Stepping

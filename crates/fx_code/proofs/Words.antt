@@ -1,25 +1,14 @@
 -- What a word is, and that it is a floored sum where the row is exact.
-use Rattle.std.proofs.Common.{◌≡◌, ℕ, zero, suc, ◌^◌, ◌<◌, length, ap, ◌∙◌, inl, inr, arith}
-use Rattle.std.proofs.Math.IntN.{ℤ}
-use Rattle.std.proofs.lemmas.Bool.{cases_lt}
-use Rattle.std.proofs.lemmas.Bool.Decides.{nat_tests}
+use Rattle.std.proofs.Common.{◌^◌, length, ap, ◌∙◌, arith}
 use Rattle.fx_math.specs.Division.{floor_div}
 use Rattle.fx_math.specs.Residue.{wrap}
-use Rattle.fx_math.specs.Unroll.{fill, last}
+use Rattle.fx_math.specs.Unroll.{last}
 use Rattle.fx_math.proofs.Residue.{wrap_fits}
+use Rattle.fx_math.proofs.Unroll.{fill_at}
 use Rattle.fx_code.specs.Code.{Code, row_at}
 use Rattle.fx_code.specs.Fits.{RowFits, CodeFits}
 use Rattle.fx_code.specs.Laws.{ExactWords}
 use Rattle.fx_code.specs.Run.{word_step}
-
--- a place below n is filled by its own step
-pub fill_at : (f : ℕ → (ℕ → ℤ) → ℤ) (n i : ℕ) → i < n → fill f n i ≡ f i (fill f i)
-fill_at f zero i h = absurd (omega arith)
-fill_at f (suc n) i h =
-    elim (cases_lt i n) [
-      | inl below ↦ grind (arith, nat_tests, fill_at f n i below)
-      | inr at ↦ let same : i ≡ n = omega arith in rw same (grind (arith, nat_tests))
-    ]
 
 pub exact_words : (p : Code) → CodeFits p → ExactWords p
 exact_words p fits u k i h exact =

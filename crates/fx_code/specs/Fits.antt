@@ -29,7 +29,8 @@ SourceFits n inputs (Now i) = i < n
 SourceFits n inputs (Old i) = i < 40
 SourceFits n inputs (In j) = j < inputs
 
--- what row n reads: words that are there by then, each source at most once
+-- what row n reads: earlier rows of this moment, rows of the moment before with numbers below 40, inputs that are there; each
+-- source at most once
 pub record ReadsFit (n inputs : ℕ) (row : Row) : Type 0 where
   pub sources : All (λ (t : CodeTerm). SourceFits n inputs t.from) row.terms
   pub once : IsDistinct (λ (e t : CodeTerm). same_source e.from t.from) row.terms

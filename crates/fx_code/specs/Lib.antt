@@ -6,6 +6,7 @@ pub mod Laws
 pub mod Limits
 pub mod Marks
 pub mod Moments
+pub mod NetRows
 pub mod Prepared
 pub mod Run
 pub mod Standing

@@ -1,7 +1,8 @@
 -- The first fault of each part that is to be added to a program, and the fault that an answer tells.
-use Rattle.std.specs.Prelude.{ℕ, ◌+◌, ◌-◌, ◌^◌, min, nat_lt, nat_le, ◌==◌, pos, unsigned_abs, Bool, true, false, not, ◌||◌, List, [], ◌∷◌, ◌++◌, length, sum_by, Option, Some, None, Result, Ok, Err}
+use Rattle.std.specs.Prelude.{ℕ, ◌+◌, ◌-◌, ◌^◌, min, nat_lt, nat_le, ◌==◌, pos, unsigned_abs, Bool, false, not, ◌||◌, List, [], ◌∷◌, ◌++◌, length, sum_by, Option, Some, None, Result, Ok, Err}
 use Rattle.std.specs.Option.{option_or}
 use Rattle.std.specs.List.{list_any}
+use Rattle.fx_math.specs.Faults.{fault_if}
 use Rattle.fx_code.specs.Code.{Row, Code, weight}
 use Rattle.fx_code.specs.declared.term.CodeTerm.{CodeTerm}
 use Rattle.fx_code.specs.declared.term.Read.{Read}
@@ -9,11 +10,6 @@ use Rattle.fx_code.specs.declared.term.Read.TheVariants.{Now, Old, In}
 use Rattle.fx_code.specs.declared.fault.LimitOf.TheVariants.{Accumulator, Inputs, Rows, Outputs, InputWidth, Width, Shift, Left, Coefficient, Product, Terms, OutputRow}
 use Rattle.fx_code.specs.declared.fault.ProgramFault.{ProgramFault}
 use Rattle.fx_code.specs.declared.fault.ProgramFault.TheVariants.{Limit, Order, Twice, NoMemory}
-
--- this fault where a test holds, else the first of the rest
-abbrev pub fault_if : Bool → ProgramFault → Option ProgramFault → Option ProgramFault
-fault_if true fault rest = Some fault
-fault_if false fault rest = rest
 
 -- n is below low or above high
 abbrev pub is_outside : ℕ → ℕ → ℕ → Bool

@@ -1,6 +1,15 @@
-ghost use Rattle.fx_code.specs.Laws.{EarlierInputs, ExactWords, OutputsInOrder};
+ghost use Rattle.fx_code.specs.Laws.{CodeStands, EarlierInputs, ExactWords, FittingOutputs, FittingRows, FittingStarts, FlooredRowsRun, OutputsInOrder, WordsRun};
 
 use crate::program::{Program, programs_fit};
+use fx_net::rows_stand;
+
+/// A law with nothing to run: what keeps the limits is never refused, be it a start, a row or an output.
+#[tactic(auto, using(crate::proofs::Fitting::start_passes, crate::proofs::Fitting::row_passes, crate::proofs::Fitting::output_passes))]
+pub fn what_fits_has_no_fault()
+    ensures start { FittingStarts }
+    ensures row { FittingRows }
+    ensures output { FittingOutputs }
+{}
 
 /// A law with nothing to run: the word of an exact row is its whole-number sum, floored by the shift.
 pub fn exact_words_are_floored_sums(program: &Program)
@@ -18,3 +27,22 @@ pub fn words_read_no_later_inputs()
 pub fn outputs_are_output_words()
     ensures { OutputsInOrder }
 {}
+
+/// A law with nothing to run: the rows of a program that is put into a net stand there, each with its class.
+pub fn code_stands()
+    ensures { CodeStands }
+{
+    rows_stand();
+}
+
+/// A law with nothing to run: in each net that holds the rows of a whole program, the words are a perturbed run of these
+/// rows, over each common denominator of the net: what an exact row with a right shift stores is off by at most half a
+/// step, and what one without stores is just what it reads. So it is with any numbers that are floored by the shift as
+/// words are, without wrapping. The other rows of the net may have any values.
+pub fn words_are_a_run(program: &Program)
+    ensures numbers { FlooredRowsRun program.now }
+    ensures words { WordsRun program.now }
+{
+    programs_fit(program);
+    exact_words_are_floored_sums(program);
+}

@@ -8,6 +8,7 @@ mod machine;
 #[cfg(test)]
 mod machine_tests;
 mod moment;
+mod net_rows;
 mod prepared;
 mod program;
 mod sums;
@@ -17,7 +18,8 @@ mod tests;
 
 pub use fault::{LimitOf, ProgramFault};
 pub use laws::{
-    exact_words_are_floored_sums, outputs_are_output_words, words_read_no_later_inputs,
+    code_stands, exact_words_are_floored_sums, outputs_are_output_words, what_fits_has_no_fault,
+    words_are_a_run, words_read_no_later_inputs,
 };
 pub use machine::Machine;
 pub use moment::Marks;

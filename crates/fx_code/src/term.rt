@@ -12,7 +12,9 @@ pub enum Read {
 /// A coefficient times a word, shifted to the left.
 #[derive(Clone, Copy, Debug, PartialEq, Eq)]
 pub struct CodeTerm {
+    /// Below 2^62 in magnitude, shifted to the left too.
     pub coef: i64,
     pub from: Read,
+    /// By so many places: 0 to 62.
     pub left: u8,
 }

@@ -1,4 +1,6 @@
 use crate::{CodeTerm, LimitOf, Program, ProgramFault, Read};
+use fx_net::Net;
+use fx_nums::{Den, Frac};
 use std::alloc::{AllocError, Global};
 use std::test::Fail;
 
@@ -115,5 +117,24 @@ fn counts_are_refused(rt: HostRuntime) -> Result<(), Fail> {
         program.add_output(0),
         Err(ProgramFault::Limit(LimitOf::Outputs, 5))
     );
+    Ok(())
+}
+
+// Row 0 is half of row 1 of the moment before and the input, row 1 keeps it.
+#[test]
+fn a_program_is_put_into_a_net(rt: HostRuntime) -> Result<(), Fail> {
+    let mut program = Program::start(rt.alloc(), 32, &[16])?;
+    program.add_row(16, 1, &[term(1, Read::Old(1), 0), term(1, Read::In(0), 1)])?;
+    program.add_row(16, 0, &[term(1, Read::Now(0), 0)])?;
+    program.add_output(1)?;
+    assert!(rt; program.is_whole());
+    let mut net: Net<8> = Net::new(rt.alloc())?;
+    program.put_net(&mut net, 2);
+    assert_eq!(rt; Some(net.old(2, 3)), Frac::new(1, Den::Two(1)));
+    assert_eq!(rt; Some(net.input(2, 0)), Frac::new(2, Den::Two(1)));
+    assert_eq!(rt; net.halves(2), 1);
+    assert_eq!(rt; Some(net.now(3, 2)), Frac::new(1, Den::Two(0)));
+    assert_eq!(rt; net.halves(3), 0);
+    assert_eq!(rt; Some(net.old(2, 2)), Frac::new(0, Den::Ten(0)));
     Ok(())
 }

@@ -1,10 +1,9 @@
 -- The exact values of a transfer function, brought to one scale.
 use Rattle.std.proofs.Common.{◌≡◌, ℕ, suc, ◌+◌, ◌-◌, ◌*◌, ◌^◌, ◌≤◌, Bool, true, false, not, cond, if◌then◌else◌, eqb, unsigned_abs, List, [], ◌∷◌, All, refl, arith, sym, ap, ap₂, ◌∙◌}
-use Rattle.std.proofs.Math.IntN.{ℤ, pos, negsuc, ◌+ℤ◌, ◌*ℤ◌}
+use Rattle.std.proofs.Math.IntN.{ℤ, pos, ◌+ℤ◌, ◌*ℤ◌}
 use Rattle.std.proofs.Math.Nat.{pow-succ', zero-div}
 use Rattle.std.proofs.lemmas.Int.{ints}
 use Rattle.std.proofs.lemmas.Nat.{pow-add}
-use Rattle.std.proofs.lemmas.Bool.Decides.{nat_tests}
 use Rattle.std.proofs.lemmas.List.Elements.{All-head, All-tail}
 use Rattle.fx_math.proofs.Polynomials.{int, nat, add, mul, same_value}
 use Rattle.fx_math.specs.Unroll.{lagged}
@@ -17,17 +16,14 @@ use Rattle.fx_eqs.specs.declared.term.Term.{Term}
 use Rattle.fx_net.specs.Laws.{DividesEach}
 use Rattle.fx_net.specs.Net.{plain}
 use Rattle.fx_net.proofs.Carried.{crossed}
+use Rattle.fx_sif.proofs.Kept.{is_zero-value}
 use Rattle.fx_direct.proofs.Ago.{ago, weigh, ago_scaled}
 use Rattle.fx_direct.proofs.Lifting.{weight}
-
-is_zero_value : (z : ℤ) → eqb (unsigned_abs z) 0 ≡ true → z ≡ pos 0
-is_zero_value (pos k) e = grind (arith, nat_tests)
-is_zero_value (negsuc k) e = grind (arith, nat_tests)
 
 -- a coefficient of value 0 has no weight
 pub no_weight : (q g : ℕ) (c : Fraction) → eqb (unsigned_abs c.num) 0 ≡ true → weight q g c ≡ pos 0
 no_weight q g c e =
-    let none : c.num ≡ pos 0 = is_zero_value c.num e in
+    let none : c.num ≡ pos 0 = is_zero-value c.num e in
     rw none (omega (arith, ints))
 
 pub split_off : (o v w : ℤ) (q g r : ℕ) → pos (q * g) *ℤ ((o *ℤ v +ℤ w) *ℤ pos r) ≡ (o *ℤ pos q) *ℤ (pos g *ℤ (v *ℤ pos r)) +ℤ pos (q * g) *ℤ (w *ℤ pos r)

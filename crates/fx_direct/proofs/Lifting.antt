@@ -1,11 +1,11 @@
--- A run of a form without kicks, brought to one scale, at which no powers of its denominator are left. What lies behind
+-- A run of a form without perturbation, brought to one scale, at which no powers of its denominator are left. What lies behind
 -- the last moment of interest is free.
-use Rattle.std.proofs.Common.{◌≡◌, ℕ, zero, suc, ◌+◌, ◌-◌, ◌*◌, ◌^◌, ◌<◌, ◌≤◌, Bool, true, false, cond, ◌&&◌, eqb, List, [], ◌∷◌, map, filter, All, refl, arith, sym, ap, ap₂, ◌∙◌}
+use Rattle.std.proofs.Common.{◌≡◌, ℕ, zero, suc, ◌+◌, ◌-◌, ◌*◌, ◌^◌, ◌<◌, ◌≤◌, Bool, true, false, cond, eqb, List, [], ◌∷◌, map, filter, All, refl, arith, sym, ap, ap₂, ◌∙◌}
 use Rattle.std.proofs.Math.IntN.{ℤ, pos, ◌+ℤ◌, ◌*ℤ◌}
 use Rattle.std.proofs.Math.Nat.{pow-succ'}
 use Rattle.std.proofs.lemmas.Int.{ints}
 use Rattle.std.proofs.lemmas.Nat.{pow-add}
-use Rattle.std.proofs.lemmas.Bool.{eqb-true, ltb-true}
+use Rattle.std.proofs.lemmas.Bool.{and_parts, eqb-true}
 use Rattle.std.proofs.lemmas.List.Elements.{All-head, All-tail, All-nil, All-cons}
 use Rattle.fx_math.proofs.Polynomials.{int, nat, add, mul, same_value}
 use Rattle.fx_math.proofs.Ring.{mul-le-back}
@@ -14,17 +14,14 @@ use Rattle.fx_eqs.specs.Expanded.{NetRead, NetTerm}
 use Rattle.fx_eqs.specs.Expanded.NetRead.{Now, Old, In}
 use Rattle.fx_net.specs.Rows.{ReadFits}
 use Rattle.fx_net.specs.Run.{before, IsRun}
-use Rattle.fx_sif.specs.Blocks.{height, width}
 use Rattle.fx_sif.specs.Fits.{EntryFits, FormFits}
 use Rattle.fx_sif.specs.Form.{Form, rows}
-use Rattle.fx_sif.specs.Rows.{row_place, net_read, is_read, term_of, is_in_row, net_row}
+use Rattle.fx_sif.specs.Rows.{row_place, is_read, term_of, is_in_row, net_row}
 use Rattle.fx_sif.specs.Runs.{read_value, terms_value}
 use Rattle.fx_sif.specs.SameOutputs.{net_alone}
-use Rattle.fx_sif.specs.declared.parts.Block.{Block}
-use Rattle.fx_sif.specs.declared.parts.Block.TheVariants.{J, K, L, M, N, P, Q, R, S}
 use Rattle.fx_sif.specs.declared.parts.Entry.{Entry}
 use Rattle.fx_sif.specs.declared.parts.Sizes.{Sizes}
-use Rattle.fx_sif.proofs.Summing.{runs_are_sums}
+use Rattle.fx_sif.proofs.Summing.{reads_there, runs_are_sums}
 
 -- ---- the scale
 
@@ -111,22 +108,6 @@ lifted_terms last n q g e u z k r (t ∷ ts) fits l h =
     (lifted_read last n q e u z k r t.from (All-head (λ (t : NetTerm). ReadFits n 0 r t.from) t ts fits) l h)
     (lifted_terms last n q g e u z k r ts (All-tail (λ (t : NetTerm). ReadFits n 0 r t.from) t ts fits) l h)
 
--- a row of a form reads what is there
-reads_there : (s : Sizes) (r : ℕ) (b : Block) (i j : ℕ) → s.u ≤ 4 → i < height s b → j < width s b → is_read b i j ≡ true → row_place s b i ≡ r → ReadFits (rows s) 0 r (net_read s b j)
-reads_there s r J i j few h k read place = let below : j < i = ltb-true j i read in omega arith
-reads_there s r K i j few h k read place = omega arith
-reads_there s r L i j few h k read place = omega arith
-reads_there s r M i j few h k read place = omega arith
-reads_there s r N i j few h k read place = omega arith
-reads_there s r P i j few h k read place = omega arith
-reads_there s r Q i j few h k read place = omega arith
-reads_there s r R i j few h k read place = omega arith
-reads_there s r S i j few h k read place = omega arith
-
-both : (a b : Bool) → a && b ≡ true → (a ≡ true) × (b ≡ true)
-both true b h = (refl, h)
-both false b h = cc
-
 all_there : (s : Sizes) (r : ℕ) (es : List Entry) → s.u ≤ 4 → All (EntryFits s) es → All (λ (t : NetTerm). ReadFits (rows s) 0 r t.from) (net_row s es r)
 all_there s r [] few fits = All-nil (λ (t : NetTerm). ReadFits (rows s) 0 r t.from)
 all_there s r (e ∷ es) few fits = by_test (is_in_row s r e) refl (all_there s r es few (All-tail (EntryFits s) e es fits))
@@ -134,7 +115,7 @@ all_there s r (e ∷ es) few fits = by_test (is_in_row s r e) refl (all_there s 
     by_test : (b : Bool) → is_in_row s r e ≡ b → All (λ (t : NetTerm). ReadFits (rows s) 0 r t.from) (net_row s es r) →
         All (λ (t : NetTerm). ReadFits (rows s) 0 r t.from) (map (term_of s) (cond b (e ∷ filter (is_in_row s r) es) (filter (is_in_row s r) es)))
     by_test true h rest =
-        let p = both (is_read e.block e.i e.j) (eqb (row_place s e.block e.i) r) h in
+        let p = and_parts (is_read e.block e.i e.j) (eqb (row_place s e.block e.i) r) h in
         let here = All-head (EntryFits s) e es fits in
         All-cons (λ (t : NetTerm). ReadFits (rows s) 0 r t.from) (term_of s e) (net_row s es r)
         (reads_there s r e.block e.i e.j few here.row here.column p.0 (eqb-true (row_place s e.block e.i) r p.1)) rest

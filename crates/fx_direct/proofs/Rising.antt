@@ -2,7 +2,7 @@
 use Rattle.std.proofs.Common.{◌≡◌, ℕ, zero, suc, ◌+◌, ◌*◌, ◌<◌, ◌≤◌, Bool, true, false, ◌&&◌, cond, eqb, nat_lt, max, List, [], ◌∷◌, ◌++◌, length, length-drop, map, drop, All, refl, arith, sym, subst, ◌∙◌}
 use Rattle.std.specs.List.{IsDistinct}
 use Rattle.std.proofs.Math.Nat.{le-max_left, le-max_right, max-le}
-use Rattle.std.proofs.lemmas.Bool.{eqb-true, ltb-true}
+use Rattle.std.proofs.lemmas.Bool.{and_parts, eqb-true, ltb-true}
 use Rattle.std.proofs.lemmas.List.{length-map}
 use Rattle.std.proofs.lemmas.List.Elements.{All-nil, All-cons}
 use Rattle.fx_nums.specs.Fraction.{Fraction}
@@ -16,6 +16,7 @@ use Rattle.fx_sif.specs.declared.parts.Block.{Block}
 use Rattle.fx_sif.specs.declared.parts.Block.TheVariants.{J, K, L, M, N, P, Q, R, S}
 use Rattle.fx_sif.specs.declared.parts.Entry.{Entry}
 use Rattle.fx_sif.specs.declared.parts.Sizes.{Sizes}
+use Rattle.fx_sif.proofs.Matches.{nine}
 use Rattle.fx_direct.specs.Entries.{coefficient, entry, across, by_row, delay_row, delays}
 use Rattle.fx_direct.specs.Forms.{order, single, fir_entries, fir_form, df1_entries, df1_form, df2_entries, df2_form, df2t_row, first_state, df2t_entries, df2t_form}
 use Rattle.fx_direct.specs.Laws.{NeverRefused}
@@ -61,17 +62,6 @@ all_fit s lo hi (e ∷ es) h = All-cons (EntryFits s) e es h.1 (all_fit s (numbe
 
 -- ---- no two in one place
 
-nine : (C : Block → Type 0) → C J → C K → C L → C M → C N → C P → C Q → C R → C S → (b : Block) → C b
-nine C j k l m n p q r s J = j
-nine C j k l m n p q r s K = k
-nine C j k l m n p q r s L = l
-nine C j k l m n p q r s M = m
-nine C j k l m n p q r s N = n
-nine C j k l m n p q r s P = p
-nine C j k l m n p q r s Q = q
-nine C j k l m n p q r s R = r
-nine C j k l m n p q r s S = s
-
 base_tells : (a b : Block) → same_block a b ≡ eqb (block_base a) (block_base b)
 base_tells J = nine (λ b. same_block J b ≡ eqb (block_base J) (block_base b)) refl refl refl refl refl refl refl refl refl
 base_tells K = nine (λ b. same_block K b ≡ eqb (block_base K) (block_base b)) refl refl refl refl refl refl refl refl refl
@@ -83,14 +73,10 @@ base_tells Q = nine (λ b. same_block Q b ≡ eqb (block_base Q) (block_base b))
 base_tells R = nine (λ b. same_block R b ≡ eqb (block_base R) (block_base b)) refl refl refl refl refl refl refl refl refl
 base_tells S = nine (λ b. same_block S b ≡ eqb (block_base S) (block_base b)) refl refl refl refl refl refl refl refl refl
 
-both : (a b : Bool) → a && b ≡ true → (a ≡ true) × (b ≡ true)
-both true b h = (refl, h)
-both false b h = cc
-
 same_number : (e g : Entry) → same_place e g ≡ true → number_of g ≡ number_of e
 same_number e g h =
-    let outer = both (same_block g.block e.block) (eqb g.i e.i && eqb g.j e.j) h in
-    let inner = both (eqb g.i e.i) (eqb g.j e.j) outer.1 in
+    let outer = and_parts (same_block g.block e.block) (eqb g.i e.i && eqb g.j e.j) h in
+    let inner = and_parts (eqb g.i e.i) (eqb g.j e.j) outer.1 in
     let block : block_base g.block ≡ block_base e.block = eqb-true (block_base g.block) (block_base e.block) (sym (base_tells g.block e.block) ∙ outer.0) in
     let row : g.i ≡ e.i = eqb-true g.i e.i inner.0 in
     let column : g.j ≡ e.j = eqb-true g.j e.j inner.1 in
@@ -196,7 +182,7 @@ fir_rises b high =
 pub fir_never_refused : (b : List Fraction) → 1 ≤ length b → length b ≤ 13 → WhatFitsHasNoFault → NeverRefused (fir_form b)
 fir_never_refused b low high law = never_from 0 (order b) (fir_entries b) (fir_rises b high) (omega arith) law
 
-df1_rises : (b a : List Fraction) → length b ≤ 13 → length a ≤ 13 → Rises (df1_form b a).sizes 0 3000000 (df1_entries b a)
+pub df1_rises : (b a : List Fraction) → length b ≤ 13 → length a ≤ 13 → Rises (df1_form b a).sizes 0 3000000 (df1_entries b a)
 df1_rises b a high_b high_a =
     let s = (df1_form b a).sizes in
     let bs = drop 1 b in
@@ -223,15 +209,15 @@ pub df1_never_refused : (b a : List Fraction) → 1 ≤ length b → length b �
 df1_never_refused b a low_b high_b low_a high_a law = never_from 1 (order b + order a) (df1_entries b a) (df1_rises b a high_b high_a) (omega arith) law
 
 -- the greater order
-record Greater (n nb na : ℕ) : Type 0 where
-  left : nb ≤ n
-  right : na ≤ n
-  high : n ≤ 12
+pub record Greater (n nb na : ℕ) : Type 0 where
+  pub left : nb ≤ n
+  pub right : na ≤ n
+  pub high : n ≤ 12
 
-greater_order : (b a : List Fraction) → length b ≤ 13 → length a ≤ 13 → Greater (max (order b) (order a)) (order b) (order a)
+pub greater_order : (b a : List Fraction) → length b ≤ 13 → length a ≤ 13 → Greater (max (order b) (order a)) (order b) (order a)
 greater_order b a high_b high_a = record { left = le-max_left _ _; right = le-max_right _ _; high = max-le (omega arith) (omega arith) }
 
-df2_rises : (b a : List Fraction) (n : ℕ) → Greater n (order b) (order a) →
+pub df2_rises : (b a : List Fraction) (n : ℕ) → Greater n (order b) (order a) →
     Rises (single 1 n) 0 3000000 ((entry N 0 0 one ∷ across M 0 0 (map opposite (drop 1 a))) ++ delays K 0 n ++ (entry L 0 0 (coefficient b 0) ∷ across R 0 0 (drop 1 b)))
 df2_rises b a n g =
     let s = single 1 n in
@@ -281,7 +267,7 @@ first_rises c n = by_test (nat_lt 0 n) refl
         (omega arith, record { row = omega arith; column = omega arith; unit_lower = tt }, (omega arith, record { row = omega arith; column = some; unit_lower = tt }, omega arith))
     by_test false e = (omega arith, record { row = omega arith; column = omega arith; unit_lower = tt }, omega arith)
 
-df2t_rises : (b a : List Fraction) (n : ℕ) → n ≤ 12 → Rises (single 1 n) 0 3000000 ((entry N 0 0 (coefficient b 0) ∷ first_state n) ++ by_row n (df2t_row b a n) ++ entry L 0 0 one ∷ [])
+pub df2t_rises : (b a : List Fraction) (n : ℕ) → n ≤ 12 → Rises (single 1 n) 0 3000000 ((entry N 0 0 (coefficient b 0) ∷ first_state n) ++ by_row n (df2t_row b a n) ++ entry L 0 0 one ∷ [])
 df2t_rises b a n high =
     let s = single 1 n in
     let first = entry N 0 0 (coefficient b 0) ∷ first_state n in

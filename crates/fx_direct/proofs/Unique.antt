@@ -5,7 +5,7 @@ use Rattle.fx_nums.specs.Fraction.{Fraction}
 use Rattle.fx_direct.proofs.Ago.{ago, weigh}
 use Rattle.fx_direct.proofs.Lifting.{cancelled}
 
-ago_same : (x y : ℕ → ℤ) (k l : ℕ) → ((j : ℕ) → j ≤ k → x j ≡ y j) → ago x k l ≡ ago y k l
+pub ago_same : (x y : ℕ → ℤ) (k l : ℕ) → ((j : ℕ) → j ≤ k → x j ≡ y j) → ago x k l ≡ ago y k l
 ago_same x y k zero h = h k (omega arith)
 ago_same x y zero (suc l) h = refl
 ago_same x y (suc k) (suc l) h = ago_same x y k l (λ j b. h j (omega arith))
@@ -15,7 +15,7 @@ ago_before x y k zero some h = absurd (omega arith)
 ago_before x y zero (suc l) some h = refl
 ago_before x y (suc k) (suc l) some h = ago_same x y k l (λ j b. h j (omega arith))
 
-weigh_before : (w : Fraction → ℤ) (x y : ℕ → ℤ) (k : ℕ) (cs : List Fraction) (l : ℕ) → 1 ≤ l → ((j : ℕ) → j < k → x j ≡ y j) → weigh w x k l cs ≡ weigh w y k l cs
+pub weigh_before : (w : Fraction → ℤ) (x y : ℕ → ℤ) (k : ℕ) (cs : List Fraction) (l : ℕ) → 1 ≤ l → ((j : ℕ) → j < k → x j ≡ y j) → weigh w x k l cs ≡ weigh w y k l cs
 weigh_before w x y k [] l some h = refl
 weigh_before w x y k (c ∷ cs) l some h = ap₂ (λ a b. w c *ℤ a +ℤ b) (ago_before x y k l some h) (weigh_before w x y k cs (l + 1) (omega arith) h)
 

@@ -6,19 +6,9 @@ ghost use Rattle.fx_eqs.specs.Textbook.{opposite};
 ghost use Rattle.fx_direct.specs.Entries.{across, coefficient, delay_row, by_row, delays, entry};
 ghost use Rattle.fx_direct.specs.Forms.{df2t_row, first_state};
 
-use fx_nums::{Den, Frac};
+use fx_nums::Frac;
 use fx_sif::{Block, Entry};
 use std::alloc::AllocError;
-
-/// The number 1.
-pub fn one() -> Frac
-    ensures { result ≡ one }
-{
-    match Frac::new(1, Den::Ten(0)) {
-        Some(fraction) => fraction,
-        None => unreachable!(),
-    }
-}
 
 /// Coefficient `i` of a list; 0 where it has none.
 pub fn coefficient(coefficients: &[Frac], i: usize) -> Frac
@@ -27,10 +17,7 @@ pub fn coefficient(coefficients: &[Frac], i: usize) -> Frac
     if i < coefficients.len() {
         return coefficients[i];
     }
-    match Frac::new(0, Den::Ten(0)) {
-        Some(fraction) => fraction,
-        None => unreachable!(),
-    }
+    Frac::zero()
 }
 
 /// One more entry.
@@ -111,9 +98,9 @@ fn delay_row(entries: &mut Vec<Entry>, block: Block, at: usize, i: usize) -> Res
     ensures { OnOk result (entries.new.items ≡ entries.old.items ++ delay_row block at i) }
 {
     if i == 0 {
-        return add(entries, block, at, 0, one());
+        return add(entries, block, at, 0, Frac::one());
     }
-    add(entries, Block::P, at + i, at + i - 1, one())
+    add(entries, Block::P, at + i, at + i - 1, Frac::one())
 }
 
 /// States from `at` on, so many, that pass a value on: the first takes what column 0 of the block reads.
@@ -144,7 +131,7 @@ fn transposed_state(
     ensures { OnOk result (entries.new.items ≡ entries.old.items ++ df2t_row b.now a.now count i) }
 {
     if i + 1 < count {
-        add(entries, Block::P, i, i + 1, one())?;
+        add(entries, Block::P, i, i + 1, Frac::one())?;
     }
     add(entries, Block::Q, i, 0, coefficient(b, i + 1))?;
     add(entries, Block::K, i, 0, coefficient(a, i + 1).neg())
@@ -172,7 +159,7 @@ pub fn first_state(entries: &mut Vec<Entry>, count: usize) -> Result<(), AllocEr
     ensures { OnOk result (entries.new.items ≡ entries.old.items ++ first_state count) }
 {
     if count > 0 {
-        add(entries, Block::M, 0, 0, one())?;
+        add(entries, Block::M, 0, 0, Frac::one())?;
     }
     Ok(())
 }

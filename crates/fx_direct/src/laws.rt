@@ -54,8 +54,39 @@ pub fn df2t_is_never_refused(b: &[Frac], a: &[Frac])
 
 /// A law with nothing to run: `fir` puts out what the equations of its transfer function put out, at every moment and
 /// whatever the inputs.
+#[tactic(auto, using(crate::proofs::WithoutFeedback::fir_has_outputs))]
 pub fn fir_keeps_the_outputs(b: &[Frac])
     requires low { 1 ≤ length b.now }
     requires high { length b.now ≤ 13 }
     ensures { HasOutputs (fir_form b.now) (tf_equations b.now (one ∷ [])) }
+{}
+
+/// A law with nothing to run: `df1` puts out what the equations of its transfer function put out, at every moment and
+/// whatever the inputs.
+#[tactic(auto, using(crate::proofs::FirstForm::df1_has_outputs))]
+pub fn df1_keeps_the_outputs(b: &[Frac], a: &[Frac])
+    requires numerator_low { 1 ≤ length b.now }
+    requires numerator_high { length b.now ≤ 13 }
+    requires denominator_high { length a.now ≤ 13 }
+    ensures { HasOutputs (df1_form b.now a.now) (tf_equations b.now a.now) }
+{}
+
+/// A law with nothing to run: `df2` puts out what the equations of its transfer function put out, at every moment and
+/// whatever the inputs.
+#[tactic(auto, using(crate::proofs::SecondForm::df2_has_outputs))]
+pub fn df2_keeps_the_outputs(b: &[Frac], a: &[Frac])
+    requires numerator_low { 1 ≤ length b.now }
+    requires numerator_high { length b.now ≤ 13 }
+    requires denominator_high { length a.now ≤ 13 }
+    ensures { HasOutputs (df2_form b.now a.now) (tf_equations b.now a.now) }
+{}
+
+/// A law with nothing to run: `df2t` puts out what the equations of its transfer function put out, at every moment and
+/// whatever the inputs.
+#[tactic(auto, using(crate::proofs::Transposed::df2t_has_outputs))]
+pub fn df2t_keeps_the_outputs(b: &[Frac], a: &[Frac])
+    requires numerator_low { 1 ≤ length b.now }
+    requires numerator_high { length b.now ≤ 13 }
+    requires denominator_high { length a.now ≤ 13 }
+    ensures { HasOutputs (df2t_form b.now a.now) (tf_equations b.now a.now) }
 {}

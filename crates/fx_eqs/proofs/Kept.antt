@@ -1,12 +1,12 @@
 -- What the tests refuse not, fits.
-use Rattle.std.proofs.Common.{◌≡◌, ℕ, ◌<◌, ◌≤◌, Bool, true, false, cond, eqb, List, [], ◌∷◌, ◌++◌, length, All, Option, Some, None, refl, arith, nat_le, append_assoc, ap, sym, ◌∙◌}
-use Rattle.std.specs.Option.{option_or}
+use Rattle.std.proofs.Common.{◌≡◌, ℕ, ◌<◌, ◌≤◌, Bool, true, false, cond, eqb, List, [], ◌∷◌, ◌++◌, length, All, Option, None, refl, arith, nat_le, append_assoc, ap, sym, ◌∙◌}
 use Rattle.std.specs.List.{IsDistinct, AllByRecursion, list_any}
 use Rattle.std.proofs.lemmas.Bool.{or_parts, ltb-false}
 use Rattle.std.proofs.lemmas.Bool.Decides.{nat_tests}
 use Rattle.std.proofs.lemmas.List.Elements.{All-nil, All-cons, filter-append}
 use Rattle.fx_eqs.specs.Equations.{is_kept, kept}
-use Rattle.fx_eqs.specs.Faults.{fault_if, source_fault, is_forward_read, is_same_read, kept_term_fault, term_fault, terms_fault, eqs_fault}
+use Rattle.fx_math.proofs.Faults.{if_none, or_none}
+use Rattle.fx_eqs.specs.Faults.{source_fault, is_forward_read, is_same_read, kept_term_fault, term_fault, terms_fault, eqs_fault}
 use Rattle.fx_eqs.specs.Fits.{SourceFits, IsThereByThen, TermFits, EquationsFit}
 use Rattle.fx_eqs.specs.Lags.{net_rows}
 use Rattle.fx_eqs.specs.declared.term.Source.{Source}
@@ -16,23 +16,15 @@ use Rattle.fx_eqs.specs.declared.fault.EqsFault.{EqsFault}
 
 -- ---- what no fault means
 
-if-none : (test : Bool) (fault : EqsFault) (rest : Option EqsFault) → fault_if test fault rest ≡ None → (test ≡ false) × (rest ≡ None)
-if-none true fault rest e = cc
-if-none false fault rest e = (refl, e)
-
-or-none : (first rest : Option EqsFault) → option_or first rest ≡ None → (first ≡ None) × (rest ≡ None)
-or-none None rest e = (refl, e)
-or-none (Some fault) rest e = cc
-
 not_le : (a b : ℕ) → nat_le a b ≡ false → b < a
 not_le a b h = grind (arith, nat_tests)
 
 source_none : (rows inputs place : ℕ) (from : Source) (rest : Option EqsFault) → source_fault rows inputs place from rest ≡ None → SourceFits rows inputs from × (rest ≡ None)
 source_none rows inputs place (Row j) rest e =
-    let p = if-none _ _ _ e in
+    let p = if_none _ _ _ e in
     (not_le rows j p.0, p.1)
 source_none rows inputs place (In j) rest e =
-    let p = if-none _ _ _ e in
+    let p = if_none _ _ _ e in
     (not_le inputs j p.0, p.1)
 
 there_by_then : (row : ℕ) (from : Source) (lag : ℕ) → is_forward_read row from lag ≡ false → IsThereByThen row from lag
@@ -45,11 +37,11 @@ record TermPasses (rows inputs : ℕ) (earlier : List Term) (t : Term) : Type 0 
 
 kept_term_none : (rows inputs : ℕ) (earlier : List Term) (t : Term) → kept_term_fault rows inputs earlier t ≡ None → TermPasses rows inputs earlier t
 kept_term_none rows inputs earlier t e =
-    let row = if-none _ _ _ e in
+    let row = if_none _ _ _ e in
     let source = source_none rows inputs (length earlier) t.from _ row.1 in
-    let lag = if-none _ _ _ source.1 in
-    let forward = if-none _ _ _ lag.1 in
-    let once = if-none _ _ _ forward.1 in
+    let lag = if_none _ _ _ source.1 in
+    let forward = if_none _ _ _ lag.1 in
+    let once = if_none _ _ _ forward.1 in
     record {
       fits = λ keeps. record {
         coefficient = keeps;
@@ -77,7 +69,7 @@ passes rows inputs earlier t keeps e = kept_term_none rows inputs earlier t (rw 
 terms_fit : (rows inputs : ℕ) (earlier ts : List Term) → terms_fault rows inputs earlier ts ≡ None → All (TermFits rows inputs) (kept ts)
 terms_fit rows inputs earlier [] e = All-nil (TermFits rows inputs)
 terms_fit rows inputs earlier (t ∷ ts) e =
-    let p = or-none _ _ e in
+    let p = or_none _ _ e in
     let rest = terms_fit rows inputs (earlier ++ t ∷ []) ts p.1 in
     kept_cons (All (TermFits rows inputs)) t ts
     (λ keeps. All-cons (TermFits rows inputs) t (kept ts) ((passes rows inputs earlier t keeps p.0).fits keeps) rest)
@@ -92,7 +84,7 @@ fails_at test (b ∷ before) after e h = fails_at test before after e (or_parts 
 apart : (rows inputs : ℕ) (earlier before after : List Term) (e : Term) (ts : List Term) → kept earlier ≡ before ++ e ∷ after → terms_fault rows inputs earlier ts ≡ None → AllByRecursion (λ (t : Term). is_same_read t e ≡ false) (kept ts)
 apart rows inputs earlier before after e [] same h = tt
 apart rows inputs earlier before after e (t ∷ ts) same h =
-    let p = or-none _ _ h in
+    let p = or_none _ _ h in
     let more : kept (earlier ++ t ∷ []) ≡ before ++ e ∷ (after ++ kept (t ∷ [])) = filter-append is_kept earlier (t ∷ []) ∙ ap (λ x. x ++ kept (t ∷ [])) same ∙ append_assoc before (e ∷ after) (kept (t ∷ [])) in
     let rest = apart rows inputs (earlier ++ t ∷ []) before (after ++ kept (t ∷ [])) e ts more p.1 in
     kept_cons (AllByRecursion (λ (x : Term). is_same_read x e ≡ false)) t ts
@@ -103,7 +95,7 @@ once_each : (rows inputs : ℕ) (earlier ts : List Term) → terms_fault rows in
 unfolding IsDistinct
 once_each rows inputs earlier [] e = tt
 once_each rows inputs earlier (t ∷ ts) e =
-    let p = or-none _ _ e in
+    let p = or_none _ _ e in
     let rest = once_each rows inputs (earlier ++ t ∷ []) ts p.1 in
     kept_cons (IsDistinct (λ (e t : Term). is_same_read t e)) t ts
     (λ keeps.
@@ -119,9 +111,9 @@ not_zero n e = grind (arith, nat_tests)
 pub system_fits : (rows inputs : ℕ) (terms : List Term) (outputs : List ℕ) → 1 ≤ inputs → inputs ≤ 4 → 1 ≤ length outputs → length outputs ≤ 4 → (1 ≤ rows → All (λ o. o < rows) outputs) → eqs_fault rows inputs terms ≡ None →
     EquationsFit (record { rows = rows; inputs = inputs; terms = kept terms; outputs = outputs })
 system_fits rows inputs terms outputs inputs_low inputs_high outputs_low outputs_high outputs_below e =
-    let each = or-none _ _ e in
-    let count = if-none _ _ _ each.1 in
-    let net = if-none _ _ _ count.1 in
+    let each = or_none _ _ e in
+    let count = if_none _ _ _ each.1 in
+    let net = if_none _ _ _ count.1 in
     let tests = or_parts _ _ net.0 in
     let some = not_zero rows tests.0 in
     record {

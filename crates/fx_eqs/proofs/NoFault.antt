@@ -8,7 +8,8 @@ use Rattle.std.proofs.lemmas.List.Elements.{All-head, All-tail, filter-append}
 use Rattle.std.proofs.lemmas.List.Folds.{list_any-append}
 use Rattle.std.proofs.lemmas.Map.Keys.{IsDistinct-tail}
 use Rattle.fx_eqs.specs.Equations.{is_kept, kept}
-use Rattle.fx_eqs.specs.Faults.{fault_if, source_fault, is_forward_read, is_same_read, kept_term_fault, terms_fault, eqs_fault}
+use Rattle.fx_math.proofs.Faults.{none_if, none_or}
+use Rattle.fx_eqs.specs.Faults.{source_fault, is_forward_read, is_same_read, kept_term_fault, terms_fault, eqs_fault}
 use Rattle.fx_eqs.specs.Fits.{SourceFits, IsThereByThen, TermFits}
 use Rattle.fx_eqs.specs.Lags.{net_rows}
 use Rattle.fx_eqs.specs.Laws.{WhatFitsHasNoFault}
@@ -19,13 +20,6 @@ use Rattle.fx_eqs.specs.declared.fault.EqsFault.{EqsFault}
 use Rattle.fx_eqs.proofs.Distinct.{distinct_head}
 
 -- ---- the tests that let pass
-
-none_if : (test : Bool) (fault : EqsFault) (rest : Option EqsFault) → test ≡ false → rest ≡ None → fault_if test fault rest ≡ None
-none_if true fault rest e r = cc
-none_if false fault rest e r = r
-
-none_or : (first rest : Option EqsFault) → first ≡ None → rest ≡ None → option_or first rest ≡ None
-none_or first rest e r = rw (e, r)
 
 no_source_fault : (rows inputs place : ℕ) (from : Source) (rest : Option EqsFault) → SourceFits rows inputs from → rest ≡ None → source_fault rows inputs place from rest ≡ None
 no_source_fault rows inputs place (Row j) rest fits r = none_if _ _ rest (lt-leb rows j fits) r

@@ -1,7 +1,8 @@
 -- The first fault of an equation system, and the fault that an answer tells.
-use Rattle.std.specs.Prelude.{ℕ, nat_lt, nat_le, ◌==◌, Bool, true, false, ◌&&◌, ◌||◌, cond, List, [], ◌∷◌, ◌++◌, length, Option, Some, None, Result, Ok, Err}
+use Rattle.std.specs.Prelude.{ℕ, nat_lt, nat_le, ◌==◌, Bool, false, ◌&&◌, ◌||◌, cond, List, [], ◌∷◌, ◌++◌, length, Option, Some, None, Result, Ok, Err}
 use Rattle.std.specs.Option.{option_or}
 use Rattle.std.specs.List.{list_any}
+use Rattle.fx_math.specs.Faults.{fault_if}
 use Rattle.fx_eqs.specs.Equations.{is_kept, kept}
 use Rattle.fx_eqs.specs.Lags.{same_source, net_rows}
 use Rattle.fx_eqs.specs.declared.term.Source.{Source}
@@ -9,11 +10,6 @@ use Rattle.fx_eqs.specs.declared.term.Source.TheVariants.{Row, In}
 use Rattle.fx_eqs.specs.declared.term.Term.{Term}
 use Rattle.fx_eqs.specs.declared.fault.EqsFault.{EqsFault}
 use Rattle.fx_eqs.specs.declared.fault.EqsFault.TheVariants.{ForwardNow, RowRange, InputRange, LagRange, TooManyTerms, TooManyRows, Twice, NoMemory}
-
--- this fault where a test holds, else the first of the rest
-abbrev pub fault_if : Bool → EqsFault → Option EqsFault → Option EqsFault
-fault_if true fault rest = Some fault
-fault_if false fault rest = rest
 
 -- ---- one term
 

@@ -122,7 +122,7 @@ impl Eqs {
         self.net_rows
     }
 
-    /// An equal system.
+    /// An equal system. Its error is want of memory.
     pub fn copy(&self, alloc: Global) -> Result<Eqs, AllocError>
         ensures { IfOk result (λ s. s ≡ self.now) }
     {

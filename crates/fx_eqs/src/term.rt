@@ -12,8 +12,10 @@ pub enum Source {
 /// A summand of a row: a coefficient times a source, `lag` moments before.
 #[derive(Clone, Copy, Debug, PartialEq, Eq)]
 pub struct Term {
+    /// The row that it belongs to, below the count of rows.
     pub row: u8,
     pub coef: Frac,
     pub from: Source,
+    /// Moments before: 0 to 12, and from 1 on where the source is this row or a later one.
     pub lag: u8,
 }

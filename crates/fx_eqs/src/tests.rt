@@ -1,10 +1,7 @@
 ghost use Rattle.std.specs.Prelude.{◌≡◌, ◌<◌, ◌≤◌, ◌^◌, length, IfOk};
 ghost use Rattle.fx_eqs.specs.Textbook.{tf_equations, tf_terms};
 
-use crate::{
-    Eqs, EqsFault, Source, Term, cascades_have_no_fault, lattices_have_no_fault,
-    state_spaces_have_no_fault, transfer_functions_have_no_fault, what_fits_has_no_fault,
-};
+use crate::{Eqs, EqsFault, Source, Term, transfer_functions_have_no_fault};
 use fx_nums::{Den, Frac};
 use std::alloc::{AllocError, Global};
 use std::test::Fail;
@@ -127,16 +124,5 @@ fn a_transfer_function_is_built(rt: HostRuntime) -> Result<(), Fail> {
     ];
     let system = of_transfer_function(rt.alloc(), &[half, half], &[half], &terms)?;
     assert_eq!(rt; system.terms(), terms.as_slice());
-    Ok(())
-}
-
-#[test]
-fn laws_have_cases(rt: HostRuntime) -> Result<(), Fail> {
-    let half = Frac::new(5, Den::Ten(1)).ok_or("in range")?;
-    what_fits_has_no_fault();
-    cascades_have_no_fault(2, &[half; 12]);
-    state_spaces_have_no_fault(2, 1, 1, &[half; 4], &[half; 2], &[half; 2], &[half]);
-    lattices_have_no_fault(&[half; 11], &[half; 12]);
-    assert_eq!(rt; half.num(), 5);
     Ok(())
 }

@@ -3,7 +3,8 @@ use Rattle.std.proofs.Common.{◌≡◌, ℕ, suc, ◌≤◌, List, [], ◌∷�
 use Rattle.std.proofs.Math.IntN.{ℤ}
 use Rattle.std.proofs.lemmas.List.Elements.{All-nil, All-cons, All-head, All-tail}
 use Rattle.fx_eqs.specs.Equations.{Equations}
-use Rattle.fx_files.specs.Fits.{CountsFit, EntryAgrees, EntryFits, FilterFits, ListsFit, OutputFits, OverTen, PortsFit, SettingsFit}
+use Rattle.fx_keys.specs.Fits.{OverTen}
+use Rattle.fx_files.specs.Fits.{CountsFit, EntryAgrees, EntryFits, FilterFits, ListsFit, OutputFits, PortsFit, SettingsFit}
 use Rattle.fx_files.specs.Ports.{Ports}
 use Rattle.fx_files.specs.Reading.{assembled}
 use Rattle.fx_files.specs.Specification.{CoefficientLists, Settings, coefficients_of, equations_of, target_of, with_rows}

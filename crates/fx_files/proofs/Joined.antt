@@ -3,7 +3,7 @@ use Rattle.std.proofs.Common.{List, ◌++◌, length, subst, All}
 use Rattle.std.proofs.Math.Seq.{take-append_seam, drop-append_seam}
 use Rattle.std.proofs.lemmas.List.Elements.{All-append, All-take, All-drop}
 use Rattle.fx_nums.specs.Fraction.{Fraction}
-use Rattle.fx_files.specs.Fits.{OverTen}
+use Rattle.fx_keys.specs.Fits.{OverTen}
 use Rattle.fx_files.specs.Specification.{CoefficientLists, coefficients_of}
 
 pub together : (a b c d : List Fraction) → All OverTen a → All OverTen b → All OverTen c → All OverTen d → All OverTen (a ++ (b ++ (c ++ d)))

@@ -1,9 +1,6 @@
 pub mod Agreement
-pub mod Ascending
 pub mod Assembly
 pub mod Cuts
-pub mod Front
 pub mod Joined
 pub mod Monic
-pub mod TenPowers
 pub mod TermPowers

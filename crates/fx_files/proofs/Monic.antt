@@ -1,8 +1,8 @@
 -- Sections one after the other.
 use Rattle.std.proofs.Common.{◌≡◌, ℕ, ◌+◌, ◌≤◌, true, List, [], ◌∷◌, length, get_or, drop, arith}
 use Rattle.fx_nums.specs.Fraction.{Fraction}
-use Rattle.fx_files.specs.Numerals.{is_one, each_monic}
-use Rattle.fx_files.specs.declared.key.Key.{Key}
+use Rattle.fx_files.specs.Coefficients.{is_one, each_monic}
+use Rattle.fx_keys.specs.declared.key.Key.{Key}
 
 -- a section whose fourth coefficient is 1 is passed over
 pub monic_section : (k : Key) (place : ℕ) (cs : List Fraction) (first : Fraction) → 6 ≤ length cs → first ≡ get_or cs 3 first → is_one first ≡ true → each_monic k (place + 6) (drop 6 cs) ≡ each_monic k place cs

@@ -8,7 +8,7 @@ use Rattle.fx_eqs.specs.Textbook.{backward, backward_rows, forward, forward_rows
 use Rattle.fx_eqs.specs.declared.term.Source.{Source}
 use Rattle.fx_eqs.specs.declared.term.Source.TheVariants.{Row, In}
 use Rattle.fx_eqs.specs.declared.term.Term.{Term}
-use Rattle.fx_files.specs.Fits.{OverTen}
+use Rattle.fx_keys.specs.Fits.{OverTen}
 use Rattle.fx_files.specs.Specification.{CoefficientLists, coefficients_of, equations_of}
 use Rattle.fx_files.specs.declared.words.Form.{Form}
 use Rattle.fx_files.specs.declared.words.Form.TheVariants.{Tf, Sos, Ss, Lattice}

@@ -2,13 +2,14 @@
 use Rattle.std.specs.Prelude.{ℕ, ◌==◌, ◌||◌, ℤ, pos, negsuc, unsigned_abs, Bool, false, [], ◌∷◌, codes, Result, Ok}
 use Rattle.std.specs.Option.{option_map_or}
 use Rattle.toml.specs.Data.{Data, Members, get_member, as_str, as_integer}
+use Rattle.fx_math.specs.Faults.{◌>>=◌, or_fault}
+use Rattle.fx_keys.specs.Steps.{unless}
+use Rattle.fx_keys.specs.Table.{natural_in, naturals_in}
+use Rattle.fx_keys.specs.declared.fault.FilterFault.{FilterFault}
+use Rattle.fx_keys.specs.declared.fault.FilterFault.TheVariants.{WrongKind, UnknownWord, Limit}
+use Rattle.fx_keys.specs.declared.key.Key.TheVariants as key
 use Rattle.fx_files.specs.Names.{default_structure, structure_word}
 use Rattle.fx_files.specs.Specification.{Settings}
-use Rattle.fx_files.specs.Steps.{◌>>=◌, or_fault, unless}
-use Rattle.fx_files.specs.Table.{natural_in, naturals_in}
-use Rattle.fx_files.specs.declared.fault.FilterFault.{FilterFault}
-use Rattle.fx_files.specs.declared.fault.FilterFault.TheVariants.{WrongKind, UnknownWord, Limit}
-use Rattle.fx_files.specs.declared.key.Key.TheVariants as key
 use Rattle.fx_files.specs.declared.words.Form.{Form}
 use Rattle.fx_files.specs.declared.words.Structure.{Structure}
 

@@ -1,16 +1,36 @@
 -- The coefficients of each form.
-use Rattle.std.specs.Prelude.{ℕ, ◌+◌, List, [], length, Result, Ok}
+use Rattle.std.specs.Prelude.{ℕ, ◌+◌, ◌==◌, ◌&&◌, not, pos, unsigned_abs, Bool, List, [], ◌∷◌, length, Result, Ok}
+use Rattle.std.specs.Int.Signed.{lt_z}
 use Rattle.toml.specs.Data.{Members, Items}
-use Rattle.fx_nums.specs.Fraction.{Fraction}
-use Rattle.fx_files.specs.Numerals.{entries_in, rows_in, each_numeral, matrix, monic, each_monic}
+use Rattle.fx_math.specs.Faults.{◌>>=◌}
+use Rattle.fx_nums.specs.Fraction.{Fraction, den_value}
+use Rattle.fx_keys.specs.Numerals.{entries_in, rows_in, each_numeral, matrix}
+use Rattle.fx_keys.specs.Steps.{unless}
+use Rattle.fx_keys.specs.Table.{item_count, some, at_most, exactly}
+use Rattle.fx_keys.specs.declared.fault.FilterFault.{FilterFault}
+use Rattle.fx_keys.specs.declared.fault.FilterFault.TheVariants.{NotMonic}
+use Rattle.fx_keys.specs.declared.key.Key.{Key}
+use Rattle.fx_keys.specs.declared.key.Key.TheVariants as key
 use Rattle.fx_files.specs.Specification.{CoefficientLists}
-use Rattle.fx_files.specs.Steps.{◌>>=◌}
-use Rattle.fx_files.specs.Table.{item_count, some, at_most, exactly}
-use Rattle.fx_files.specs.declared.fault.FilterFault.{FilterFault}
-use Rattle.fx_files.specs.declared.key.Key.{Key}
-use Rattle.fx_files.specs.declared.key.Key.TheVariants as key
 use Rattle.fx_files.specs.declared.words.Form.{Form}
 use Rattle.fx_files.specs.declared.words.Form.TheVariants.{Tf, Sos, Ss, Lattice}
+
+-- ---- entries that are 1
+
+abbrev pub is_one : Fraction → Bool
+is_one c = not (lt_z c.num (pos 0)) && unsigned_abs c.num == den_value c.den
+
+-- the entry at this place, the first that is left, is 1
+abbrev pub monic : Key → ℕ → List Fraction → Result (Unit {0}) FilterFault
+monic k place [] = Ok tt
+monic k place (c ∷ cs) = unless (NotMonic k place) (is_one c)
+
+-- of each six entries the fourth is 1
+unfoldable pub each_monic : Key → ℕ → List Fraction → Result (Unit {0}) FilterFault
+each_monic k place (b0 ∷ b1 ∷ b2 ∷ a0 ∷ a1 ∷ a2 ∷ cs) = do
+  u ← unless (NotMonic k (place + 3)) (is_one a0)
+  each_monic k (place + 6) cs
+each_monic k place _ = Ok tt
 
 -- ---- transfer function
 

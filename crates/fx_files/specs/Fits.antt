@@ -1,28 +1,17 @@
 -- What every filter keeps.
-use Rattle.std.specs.Prelude.{◌≡◌, ℕ, ◌+◌, ◌*◌, ◌/◌, ◌≤◌, ◌==◌, ◌||◌, IsTrue, Bool, true, false, ℤ, pos, negsuc, ◌-ℤ◌, ◌≤ℤ◌, List, length, map, All, Ok}
-use Rattle.fx_decimal.specs.Printed.{IsOverTen}
-use Rattle.fx_nums.specs.Fraction.{Fraction}
+use Rattle.std.specs.Prelude.{◌≡◌, ℕ, ◌+◌, ◌*◌, ◌/◌, ◌≤◌, ◌==◌, ◌||◌, IsTrue, Bool, true, false, ℤ, pos, negsuc, ◌-ℤ◌, ◌≤ℤ◌, length, map, All, Ok}
 use Rattle.fx_eqs.specs.declared.term.Term.{Term}
-use Rattle.fx_files.specs.Numerals.{monic, each_monic}
+use Rattle.fx_keys.specs.Fits.{OverTen, NaturalsFit}
+use Rattle.fx_keys.specs.declared.key.Key.{Key}
+use Rattle.fx_keys.specs.declared.key.Key.TheVariants as key
+use Rattle.fx_files.specs.Coefficients.{monic, each_monic}
 use Rattle.fx_files.specs.Ports.{Inputs, Ports, top_word}
 use Rattle.fx_files.specs.Specification.{CoefficientLists, Settings, Specification, coefficients_of, equations_of, target_of}
 use Rattle.fx_files.specs.declared.formats.InputFormat.{InputFormat}
 use Rattle.fx_files.specs.declared.formats.OutputEntry.{OutputEntry}
 use Rattle.fx_files.specs.declared.formats.OutputFormat.{OutputFormat}
-use Rattle.fx_files.specs.declared.key.Key.{Key}
-use Rattle.fx_files.specs.declared.key.Key.TheVariants as key
 use Rattle.fx_files.specs.declared.words.Form.{Form}
 use Rattle.fx_files.specs.declared.words.Form.TheVariants.{Tf, Sos, Ss, Lattice}
-
--- a fraction over a power of ten
-abbrev pub OverTen : Fraction → Type 0
-OverTen c = IsOverTen c.den
-
--- whole numbers from low to high, one to eight of them
-pub record NaturalsFit (low high : ℕ) (ns : List ℕ) : Type 0 where
-  pub some : 1 ≤ length ns
-  pub few : length ns ≤ 8
-  pub each : All (λ n. (low ≤ n) × (n ≤ high)) ns
 
 -- ---- formats
 

@@ -1,12 +1,9 @@
 pub mod Choices
 pub mod Coefficients
 pub mod Fits
+pub mod Head
 pub mod Inside
-pub mod Laws
 pub mod Names
-pub mod Numerals
 pub mod Ports
 pub mod Reading
 pub mod Specification
-pub mod Steps
-pub mod Table

@@ -3,16 +3,17 @@ use Rattle.std.specs.Prelude.{ℕ, ◌+◌, ◌-◌, ◌^◌, nat_le, ℤ, pos, 
 use Rattle.std.specs.Int.Signed.{lt_z}
 use Rattle.toml.specs.Data.{Members, Items, no_items, item, as_table}
 use Rattle.fx_nums.specs.Fraction.{Fraction}
-use Rattle.fx_files.specs.Names.{name_of}
-use Rattle.fx_files.specs.Numerals.{numeral_at}
-use Rattle.fx_files.specs.Steps.{◌>>=◌, or_fault, unless}
-use Rattle.fx_files.specs.Table.{needed, only_keys, whole_in, needed_natural, list_at, all_tables, some, at_most}
-use Rattle.fx_files.specs.declared.fault.FilterFault.{FilterFault}
-use Rattle.fx_files.specs.declared.fault.FilterFault.TheVariants.{WrongKind, Shape, Limit}
+use Rattle.fx_math.specs.Faults.{◌>>=◌, or_fault}
+use Rattle.fx_keys.specs.Names.{name_of}
+use Rattle.fx_keys.specs.Numerals.{numeral_at}
+use Rattle.fx_keys.specs.Steps.{unless}
+use Rattle.fx_keys.specs.Table.{needed, only_keys, whole_in, needed_natural, list_at, all_tables, some, at_most}
+use Rattle.fx_keys.specs.declared.fault.FilterFault.{FilterFault}
+use Rattle.fx_keys.specs.declared.fault.FilterFault.TheVariants.{WrongKind, Shape, Limit}
+use Rattle.fx_keys.specs.declared.key.Key.{Key}
+use Rattle.fx_keys.specs.declared.key.Key.TheVariants as key
 use Rattle.fx_files.specs.declared.formats.InputFormat.{InputFormat}
 use Rattle.fx_files.specs.declared.formats.OutputEntry.{OutputEntry}
-use Rattle.fx_files.specs.declared.key.Key.{Key}
-use Rattle.fx_files.specs.declared.key.Key.TheVariants as key
 use Rattle.fx_files.specs.declared.words.Form.{Form}
 use Rattle.fx_files.specs.declared.words.Form.TheVariants.{Ss}
 

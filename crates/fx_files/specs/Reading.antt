@@ -1,13 +1,14 @@
 -- The filter of a file, or its first fault.
 use Rattle.std.specs.Prelude.{ℕ, List, length, Result, Ok}
 use Rattle.toml.specs.Data.{Members}
+use Rattle.fx_math.specs.Faults.{◌>>=◌}
+use Rattle.fx_keys.specs.Table.{table_at}
+use Rattle.fx_keys.specs.declared.fault.FilterFault.{FilterFault}
 use Rattle.fx_files.specs.Choices.{settings_in}
 use Rattle.fx_files.specs.Coefficients.{lists_in}
+use Rattle.fx_files.specs.Head.{head_in}
 use Rattle.fx_files.specs.Ports.{Ports, ports_in, single, outputs_fit}
 use Rattle.fx_files.specs.Specification.{CoefficientLists, Settings, Specification, equations_of, with_rows}
-use Rattle.fx_files.specs.Steps.{◌>>=◌}
-use Rattle.fx_files.specs.Table.{table_at, head_in}
-use Rattle.fx_files.specs.declared.fault.FilterFault.{FilterFault}
 use Rattle.fx_files.specs.declared.words.Form.{Form}
 
 -- the filter of these parts

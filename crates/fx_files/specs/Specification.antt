@@ -4,11 +4,11 @@ use Rattle.fx_math.specs.Division.{floor_div}
 use Rattle.fx_nums.specs.Fraction.{Fraction, den_value}
 use Rattle.fx_eqs.specs.Equations.{Equations}
 use Rattle.fx_eqs.specs.Textbook.{tf_equations, sos_equations, ss_equations, lattice_equations}
+use Rattle.fx_keys.specs.declared.key.Key.{Key}
+use Rattle.fx_keys.specs.declared.key.Key.TheVariants as key
 use Rattle.fx_files.specs.declared.formats.InputFormat.{InputFormat}
 use Rattle.fx_files.specs.declared.formats.OutputEntry.{OutputEntry}
 use Rattle.fx_files.specs.declared.formats.OutputFormat.{OutputFormat}
-use Rattle.fx_files.specs.declared.key.Key.{Key}
-use Rattle.fx_files.specs.declared.key.Key.TheVariants as key
 use Rattle.fx_files.specs.declared.words.Form.{Form}
 use Rattle.fx_files.specs.declared.words.Form.TheVariants.{Tf, Sos, Ss, Lattice}
 use Rattle.fx_files.specs.declared.words.Structure.{Structure}

@@ -1,7 +1,8 @@
 //! A filter of its parts.
 
 ghost use Rattle.std.specs.Prelude.{◌≡◌, ◌≤◌, length, All, IfOk};
-ghost use Rattle.fx_files.specs.Fits.{CountsFit, EntryAgrees, ListsFit, OverTen, PortsFit, SettingsFit};
+ghost use Rattle.fx_keys.specs.Fits.{OverTen};
+ghost use Rattle.fx_files.specs.Fits.{CountsFit, EntryAgrees, ListsFit, PortsFit, SettingsFit};
 ghost use Rattle.fx_files.specs.Inside.{ports_view, settings_view};
 ghost use Rattle.fx_files.specs.Reading.{assembled};
 ghost use Rattle.fx_files.specs.Specification.{coefficients_of, equations_of, target_of, with_rows};

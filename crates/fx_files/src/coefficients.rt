@@ -2,20 +2,55 @@
 
 ghost use Rattle.std.specs.Prelude.{◌≡◌, ◌≤◌, ◌+◌, ◌*◌, ◌^◌, ◌<◌, length, All, IfOk};
 ghost use Rattle.toml.specs.View.{table_view, items_view};
-ghost use Rattle.fx_files.specs.Coefficients.{cascade_in, ladder_in, lists_in, matrix_in, polynomial_in, reflections_in, space_in, state_rows, taps_in, transfer_in};
-ghost use Rattle.fx_files.specs.Fits.{CascadeFits, LadderFits, ListsFit, OverTen, SpaceFits, TransferFits};
+ghost use Rattle.fx_keys.specs.Fits.{OverTen};
+ghost use Rattle.fx_keys.specs.Steps.{Gives};
+ghost use Rattle.fx_files.specs.Coefficients.{cascade_in, each_monic, is_one, ladder_in, lists_in, matrix_in, monic, polynomial_in, reflections_in, space_in, state_rows, taps_in, transfer_in};
+ghost use Rattle.fx_files.specs.Fits.{CascadeFits, LadderFits, ListsFit, SpaceFits, TransferFits};
 ghost use Rattle.fx_files.specs.Specification.{coefficients_of};
-ghost use Rattle.fx_files.specs.Steps.{Gives};
 
-use crate::entries::{at_most, exactly, item_count, some};
-use crate::fault::FilterFault;
-use crate::key::Key;
 use crate::lists::Lists;
-use crate::numerals::{each_monic, each_numeral, entries_of, matrix_of, monic, rows_of};
 use crate::words::Form;
+use fx_keys::{
+    FilterFault, Key, at_most, each_numeral, entries_of, exactly, item_count, matrix_of, rows_of,
+    some,
+};
 use fx_nums::Frac;
 use std::alloc::Global;
 use toml::{Table, Value};
+
+fn is_one(fraction: Frac) -> bool
+    ensures { result ≡ is_one fraction }
+{
+    let number = fraction.num();
+    number >= 0 && u128::from(number.unsigned_abs()) == fraction.den().value()
+}
+
+// The first coefficient has to be 1.
+fn monic(coefficients: &[Frac], key: Key) -> Result<(), FilterFault>
+    ensures { Gives (λ _. tt) result (monic key 0 coefficients.now) }
+{
+    match coefficients {
+        [first, ..] if !is_one(*first) => Err(FilterFault::NotMonic(key, 0)),
+        _ => Ok(()),
+    }
+}
+
+// Of each six coefficients, the first of which stands at this place, the fourth has to be 1.
+#[tactic(auto, unfolding(crate::specs::Coefficients::each_monic))]
+fn each_monic(coefficients: &[Frac], key: Key, place: u32) -> Result<(), FilterFault>
+    requires { place + length coefficients.now < 2 ^ 32 }
+    ensures { Gives (λ _. tt) result (each_monic key place coefficients.now) }
+{
+    match coefficients {
+        [_, _, _, first, _, _, rest @ ..] => {
+            if !is_one(*first) {
+                return Err(FilterFault::NotMonic(key, place + 3));
+            }
+            each_monic(rest, key, place + 6)
+        }
+        _ => Ok(()),
+    }
+}
 
 // One to 13 numerals.
 #[tactic(auto, unfolding(crate::specs::Coefficients::polynomial_in))]

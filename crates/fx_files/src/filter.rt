@@ -1,14 +1,15 @@
 ghost use Rattle.std.specs.Prelude.{◌≡◌, ◌<◌, ◌≤◌, ◌==◌, ◌||◌, ◌≤ℤ◌, pos, negsuc, true, IsTrue, IfOk, length, map, All, slice_index_or};
-ghost use Rattle.fx_files.specs.Fits.{AccumulatorFits, FilterFits, InputFits, NaturalsFit, OutputFits, OverTen, is_own};
+ghost use Rattle.fx_keys.specs.Fits.{NaturalsFit, OverTen};
+ghost use Rattle.fx_files.specs.Fits.{AccumulatorFits, FilterFits, InputFits, OutputFits, is_own};
 ghost use Rattle.fx_files.specs.Specification.{coefficients_of, equations_of, list_of};
 
 use crate::formats::{InputFormat, OutputFormat};
-use crate::key::Key;
 use crate::lists::Lists;
 use crate::ports::Inputs;
 use crate::settings::Settings;
 use crate::words::{Form, Structure};
 use fx_eqs::Eqs;
+use fx_keys::Key;
 use fx_nums::Frac;
 use std::alloc::{AllocError, Global};
 use std::marker::Model;
@@ -174,7 +175,7 @@ impl Filter {
         }
     }
 
-    /// An equal filter.
+    /// An equal filter. Its error is want of memory.
     pub fn copy(&self, alloc: Global) -> Result<Filter, AllocError>
         ensures { IfOk result (λ f. f ≡ self.now) }
     {

@@ -2,18 +2,18 @@
 
 ghost use Rattle.std.specs.Prelude.{◌≡◌, ◌≤◌, ◌<◌, ◌≤ℤ◌, ◌-ℤ◌, pos, negsuc, length, All, IfOk};
 ghost use Rattle.toml.specs.View.{table_view, items_view};
-ghost use Rattle.fx_files.specs.Fits.{CountsFit, EntryAgrees, EntryFits, InputFits, InputsFit, OverTen, PortsFit};
+ghost use Rattle.fx_keys.specs.Fits.{OverTen};
+ghost use Rattle.fx_keys.specs.Steps.{Gives};
+ghost use Rattle.fx_files.specs.Fits.{CountsFit, EntryAgrees, EntryFits, InputFits, InputsFit, PortsFit};
 ghost use Rattle.fx_files.specs.Inside.{inputs_view, ports_view};
 ghost use Rattle.fx_files.specs.Ports.{alone, each_input, each_output, error_in, input_in, inputs_in, output_fits, output_in, outputs_fit, outputs_in, ports_in, single, tables_in, top_word};
-ghost use Rattle.fx_files.specs.Steps.{Gives};
 
-use crate::entries::{all_tables, at_most, list_at, some};
-use crate::fault::FilterFault;
 use crate::formats::{InputFormat, OutputEntry};
-use crate::key::Key;
-use crate::numerals::numeral_of;
-use crate::table::{needed, needed_natural, only_keys, whole_of};
 use crate::words::Form;
+use fx_keys::{
+    FilterFault, Key, all_tables, at_most, list_at, needed, needed_natural, numeral_of, only_keys,
+    some, whole_of,
+};
 use fx_nums::Frac;
 use std::alloc::{AllocError, Global};
 use toml::{Table, Value};

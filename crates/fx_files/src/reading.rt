@@ -1,15 +1,15 @@
 ghost use Rattle.std.specs.Prelude.{length};
 ghost use Rattle.toml.specs.View.{table_view};
+ghost use Rattle.fx_keys.specs.Steps.{Gives};
 ghost use Rattle.fx_files.specs.Reading.{filter_in, filter_of_bytes};
-ghost use Rattle.fx_files.specs.Steps.{Gives};
 
 use crate::building::assembled;
 use crate::coefficients::lists_of;
-use crate::fault::FilterFault;
 use crate::filter::Filter;
+use crate::head::head_of;
 use crate::ports::{outputs_fit, ports_of, single};
 use crate::settings::settings_of;
-use crate::table::{head_of, table_of};
+use fx_keys::{FilterFault, table_of};
 use std::alloc::Global;
 use toml::Table;
 

@@ -2,16 +2,13 @@
 
 ghost use Rattle.std.specs.Prelude.{◌≡◌, ◌≤◌, ◌==◌, ◌||◌, IsTrue, IfOk};
 ghost use Rattle.toml.specs.View.{view, table_view};
+ghost use Rattle.fx_keys.specs.Steps.{Gives};
 ghost use Rattle.fx_files.specs.Choices.{accumulator_at, accumulator_in, is_accumulator, settings_in, structure_at, structure_in};
 ghost use Rattle.fx_files.specs.Fits.{AccumulatorFits, SettingsFit};
 ghost use Rattle.fx_files.specs.Inside.{settings_view};
-ghost use Rattle.fx_files.specs.Steps.{Gives};
 
-use crate::entries::{naturals_of, small_naturals_of};
-use crate::fault::FilterFault;
-use crate::key::Key;
-use crate::table::{natural_of, value_at};
 use crate::words::{Form, Structure};
+use fx_keys::{FilterFault, Key, natural_of, naturals_of, small_naturals_of, value_at};
 use std::alloc::{AllocError, Global};
 use toml::{Table, Value};
 

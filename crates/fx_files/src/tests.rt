@@ -17,12 +17,6 @@ fn told(alloc: Global, bytes: &[u8]) -> Result<String, AllocError> {
     }
 }
 
-// The same of the worked file with other coefficients.
-fn told_of(alloc: Global, b: &str, a: &str) -> Result<String, AllocError> {
-    let text = format!(in alloc; "form = \"tf\"\nb = [{b}]\na = [{a}]\n{PORTS}")?;
-    told(alloc, text.as_bytes())
-}
-
 // The same of lines behind the form and coefficients of the worked file.
 fn told_with(alloc: Global, lines: &str) -> Result<String, AllocError> {
     let text = format!(in alloc; "form = \"tf\"\nb = [\"0.5\"]\na = [\"1\"]\n{lines}")?;
@@ -78,33 +72,6 @@ fn the_worked_file_is_read(rt: HostRuntime) -> Result<(), Fail> {
     if copied.form() == Form::Tf {
         let half = [Frac::new(5, Den::Ten(1)).ok_or("in range")?];
         assert_eq!(rt; copied.list(Key::B), half.as_slice());
-    }
-    Ok(())
-}
-
-#[test]
-fn numerals_are_refused(rt: HostRuntime) -> Result<(), Fail> {
-    let table = [
-        ("\"0.5\"", "\"1.00e0\"", "accepted"),
-        ("7", "1", "accepted"),
-        (
-            "\"0.00000000000000000000000000001\"",
-            "\"1\"",
-            "Numeral(B, 0, TooFine)",
-        ),
-        (
-            "1, \"1.234567890123456789\"",
-            "\"1\"",
-            "Numeral(B, 1, TooManyDigits)",
-        ),
-        ("\"0.5\"", "\"2\"", "NotMonic(A, 0)"),
-        ("0.5", "\"1\"", "WrongKind(B)"),
-        ("", "\"1\"", "Shape(B, 0, 1)"),
-        ("1,1,1,1,1,1,1,1,1,1,1,1,1,1", "1", "Limit(B, 14, 13)"),
-    ];
-    for (b, a, want) in table {
-        let answer = told_of(rt.alloc(), b, a)?;
-        assert_eq!(rt; answer.as_str(), want, "{b} {a}");
     }
     Ok(())
 }
@@ -190,6 +157,13 @@ fn errors_and_counts_are_refused(rt: HostRuntime) -> Result<(), Fail> {
 #[test]
 fn shapes_are_refused(rt: HostRuntime) -> Result<(), Fail> {
     let table = [
+        ("form = \"tf\"\nb = [7]\na = [\"1.00e0\"]", "accepted"),
+        ("form = \"tf\"\nb = [7]\na = [2]", "NotMonic(A, 0)"),
+        ("form = \"tf\"\nb = []\na = [1]", "Shape(B, 0, 1)"),
+        (
+            "form = \"tf\"\nb = [1,1,1,1,1,1,1,1,1,1,1,1,1,1]\na = [1]",
+            "Limit(B, 14, 13)",
+        ),
         (
             "form = \"sos\"\nsections = [[1, 2, 3, 1, 5]]",
             "Shape(Sections, 5, 6)",

@@ -3,9 +3,9 @@ use Rattle.std.specs.Prelude.{ℕ, List, [], ◌++◌, codes}
 use Rattle.std.specs.Fmt.{decimal, signed_decimal}
 use Rattle.fx_decimal.specs.declared.fault.DecimalFault.{DecimalFault}
 use Rattle.fx_decimal.specs.declared.fault.DecimalFault.TheVariants.{Empty, BadByte, TooManyDigits, TooFine, TooLarge}
-use Rattle.fx_files.specs.Names.{name_of}
-use Rattle.fx_files.specs.declared.fault.FilterFault.{FilterFault}
-use Rattle.fx_files.specs.declared.fault.FilterFault.TheVariants.{NotToml, Missing, WrongKind, Numeral, NotMonic, Shape, Limit, UnknownKey, UnknownWord, NoMemory}
+use Rattle.fx_keys.specs.Names.{name_of}
+use Rattle.fx_keys.specs.declared.fault.FilterFault.{FilterFault}
+use Rattle.fx_keys.specs.declared.fault.FilterFault.TheVariants.{NotToml, Missing, WrongKind, Numeral, NotMonic, Shape, Limit, UnknownKey, UnknownWord, NoMemory}
 
 -- why a text is no numeral
 abbrev pub numeral_fault_text : DecimalFault → List ℕ

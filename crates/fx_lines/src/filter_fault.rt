@@ -2,8 +2,8 @@
 
 ghost use Rattle.std.specs.Prelude.{◌≡◌, ◌++◌, codes, IfOk, OnOk};
 ghost use Rattle.std.specs.Fmt.{decimal};
-ghost use Rattle.fx_files.specs.Names.{name_of};
-ghost use Rattle.fx_files.specs.declared.fault.FilterFault.TheVariants.{Limit, NotMonic, Numeral, Shape, UnknownKey};
+ghost use Rattle.fx_keys.specs.Names.{name_of};
+ghost use Rattle.fx_keys.specs.declared.fault.FilterFault.TheVariants.{Limit, NotMonic, Numeral, Shape, UnknownKey};
 ghost use Rattle.fx_lines.specs.FilterFault.{filter_fault_line, numeral_fault_text};
 
 use crate::pieces::{put_field, put_word};

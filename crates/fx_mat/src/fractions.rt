@@ -2,7 +2,7 @@ ghost use Rattle.std.specs.Prelude.{◌≡◌, ℕ, ◌+◌, ◌*◌, ◌<◌, �
 ghost use Rattle.fx_mat.specs.Entries.{zero_fraction, no_entries, put, put_column, transposed, IsZeroOutside};
 ghost use Rattle.fx_mat.specs.Matrix.{entry_at};
 
-use fx_nums::{Den, Frac};
+use fx_nums::Frac;
 use std::alloc::{AllocError, Global};
 use std::marker::Model;
 
@@ -23,13 +23,6 @@ impl<const R: usize, const C: usize> Model for FracMat<R, C> {
     ghost invariant = { λ m. length m.items.items ≡ R * C };
 }
 
-// 0 over 10^0.
-fn zero() -> Frac
-    ensures { result ≡ zero_fraction }
-{
-    Frac::new(0, Den::Ten(0)).unwrap()
-}
-
 impl<const R: usize, const C: usize> FracMat<R, C> {
     /// A matrix whose entries are all 0 over 10^0. Its error is want of memory.
     #[tactic(auto, using(crate::proofs::Places::all_zero))]
@@ -38,7 +31,7 @@ impl<const R: usize, const C: usize> FracMat<R, C> {
     {
         // More entries than a number counts are more than memory holds.
         let count = R.checked_mul(C).ok_or(AllocError)?;
-        let items = vec![in alloc; zero(); count]?;
+        let items = vec![in alloc; Frac::zero(); count]?;
         Ok(FracMat { items })
     }
 
@@ -68,7 +61,7 @@ impl<const R: usize, const C: usize> FracMat<R, C> {
     pub fn clear(&mut self)
         ensures { entry_at self.new ≡ no_entries }
     {
-        self.items.fill(zero());
+        self.items.fill(Frac::zero());
     }
 
     // Sets column i of the other matrix to row i of this one.

@@ -1,4 +1,5 @@
 pub mod Division
+pub mod Faults
 pub mod Polynomials
 pub mod Residue
 pub mod Ring

@@ -69,7 +69,7 @@ ten_is (Two e) = refl
 ten_is (Ten d) = refl
 
 -- a product whose factors the two parts divide
-whole_product : (c : Den) (a b : ℕ) → (m : ℕ) × (a ≡ two_part c * m) → (m : ℕ) × (b ≡ ten_part c * m) → den_value c * (a * b / den_value c) ≡ a * b
+pub whole_product : (c : Den) (a b : ℕ) → (m : ℕ) × (a ≡ two_part c * m) → (m : ℕ) × (b ≡ ten_part c * m) → den_value c * (a * b / den_value c) ≡ a * b
 whole_product (Two e) a b two ten = multiple (2 ^ e) (two.0 * b) (a * b) (one-le-pow e 2 (omega arith)) (omega (arith, ap (λ x. x * b) two.1))
 whole_product (Ten d) a b two ten = multiple (10 ^ d) (a * ten.0) (a * b) (one-le-pow d 10 (omega arith)) (omega (arith, ap (λ x. a * x) ten.1))
 

@@ -4,15 +4,13 @@ use Rattle.std.proofs.Math.IntN.{ℤ, pos, ◌+ℤ◌, ◌*ℤ◌}
 use Rattle.std.proofs.lemmas.Int.{ints}
 use Rattle.std.proofs.lemmas.Bool.{cases_lt, cases_eq, eq-eqb, ne_eqb}
 use Rattle.std.proofs.lemmas.List.Elements.{All-head, All-tail}
-use Rattle.fx_math.proofs.Ring.{add-mul, mul_assoc}
-use Rattle.fx_math.proofs.Sums.{total_ext}
+use Rattle.fx_math.proofs.Ring.{add-mul}
 use Rattle.fx_math.specs.Unroll.{lagged}
 use Rattle.fx_nums.specs.Fraction.{over, IsWholeOver}
-use Rattle.fx_mat.specs.Entries.{zero_fraction}
 use Rattle.fx_eqs.specs.Equations.{Equations}
 use Rattle.fx_eqs.specs.ExactRun.{exact_value, terms_sum, value_read}
 use Rattle.fx_eqs.specs.Expanded.{NetRead, NetTerm, one, expanded, net_read, input_hold_place, row_place, row_hold_place}
-use Rattle.fx_eqs.specs.Expanded.NetRead.{Now, Old, In}
+use Rattle.fx_eqs.specs.Expanded.NetRead.{Old, In}
 use Rattle.fx_eqs.specs.Fits.{EquationsFit, IsThereByThen}
 use Rattle.fx_eqs.specs.Lags.{greatest_lag}
 use Rattle.fx_eqs.specs.Laws.{MeetsEquations}
@@ -20,82 +18,16 @@ use Rattle.fx_eqs.specs.declared.term.Source.{Source}
 use Rattle.fx_eqs.specs.declared.term.Source.TheVariants.{Row, In as Input}
 use Rattle.fx_eqs.specs.declared.term.Term.{Term}
 use Rattle.fx_net.specs.Layout.{IsRead}
-use Rattle.fx_net.specs.Laws.{DividesEach, AreUnkicked, HasExactValues}
+use Rattle.fx_net.specs.Laws.{DividesEach, AreUnperturbed, HasExactValues}
 use Rattle.fx_net.specs.Net.{Net, input_count}
 use Rattle.fx_net.specs.Rows.{reads_now, reads_old, reads_input, coefficient, row_of, HoldsRows, ReadFits}
-use Rattle.fx_net.specs.Run.{IsDenominator, IsRun, before, row_time, row_sum}
+use Rattle.fx_net.specs.Run.{IsDenominator, IsRun, row_time, row_sum}
 use Rattle.fx_net.proofs.Apart.{Stands, terms_once}
 use Rattle.fx_net.proofs.Carried.{of_now, of_old, of_input, swapped, one_power, no_power, crossed, one_term, Carries, carries, carried, CarriesInput, now_source, old_source, held_source, hold_input, hold_held, hold_first, keep_held, keep_first}
-use Rattle.fx_net.proofs.Coefficients.{AreOnce, AllFit, taken, coefficient_over, whole_here, whole_rest, now_picks, old_picks, input_picks, value_at, net_sum, sum_by_source}
+use Rattle.fx_net.proofs.Coefficients.{AreOnce, AllFit, value_at, net_sum}
 use Rattle.fx_net.proofs.Positions.{at_input_hold, at_row, at_row_hold, row_inside, row_hold_inside, input_hold_inside}
 use Rattle.fx_net.proofs.Sources.{net_terms, takes, passes_over, read_fits, lag_high}
-
--- ---- a row of the net with its terms
-
--- row r of those from a place on has just these terms
-record HasTerms (net : Net) (at r : ℕ) (ts : List NetTerm) : Type 0 where
-  inside : at + r < net.rows
-  once : AreOnce ts
-  fits : AllFit net.rows at r ts
-  now : (j : ℕ) → j < at + r → net.now (at + r) j ≡ coefficient (reads_now at j) ts
-  old : (j : ℕ) → j < net.rows → net.old (at + r) j ≡ coefficient (reads_old at j) ts
-  input : (j : ℕ) → j < input_count → net.input (at + r) j ≡ coefficient (reads_input j) ts
-
-as_terms : (net : Net) (at q r : ℕ) (ts : List NetTerm) (u z : ℕ → ℕ → ℤ) (k : ℕ) → HasTerms net at r ts →
-    row_sum net q u z k (at + r) ≡ net_sum q at ts (of_now q z k (at + r)) (of_old net q z k (at + r)) (of_input net q u k (at + r))
-unfolding row_sum
-as_terms net at q r ts u z k h =
-    let i : ℕ = at + r in
-    ap₂ (λ x y. x +ℤ y)
-    (ap₂ (λ x y. x +ℤ y)
-    (total_ext i (λ j. over q (net.now i j) *ℤ z k j *ℤ pos (q ^ (i - j - 1))) (λ j. taken (reads_now at j) q ts *ℤ of_now q z k i j)
-    (λ j l. mul_assoc (over q (net.now i j)) (z k j) (pos (q ^ (i - j - 1))) ∙ ap (λ y. y *ℤ of_now q z k i j) (ap (over q) (h.now j l) ∙ coefficient_over (reads_now at j) (now_picks at j) q ts h.once)))
-    (total_ext net.rows (λ j. over q (net.old i j) *ℤ before z k j *ℤ pos (q ^ (net.rows + i - j - 1))) (λ j. taken (reads_old at j) q ts *ℤ of_old net q z k i j)
-    (λ j l. mul_assoc (over q (net.old i j)) (before z k j) (pos (q ^ (net.rows + i - j - 1))) ∙ ap (λ y. y *ℤ of_old net q z k i j) (ap (over q) (h.old j l) ∙ coefficient_over (reads_old at j) (old_picks at j) q ts h.once))))
-    (total_ext input_count (λ j. over q (net.input i j) *ℤ u k j *ℤ pos (q ^ row_time net k i)) (λ j. taken (reads_input j) q ts *ℤ of_input net q u k i j)
-    (λ j l. mul_assoc (over q (net.input i j)) (u k j) (pos (q ^ row_time net k i)) ∙ ap (λ y. y *ℤ of_input net q u k i j) (ap (over q) (h.input j l) ∙ coefficient_over (reads_input j) (input_picks j) q ts h.once)))
-    ∙ sym (sum_by_source q net.rows at r ts (of_now q z k i) (of_old net q z k i) (of_input net q u k i) h.fits)
-
--- ---- a denominator of the net is one of the terms
-
-abbrev AllWhole : ℕ → List NetTerm → Type 0
-AllWhole q [] = Unit {0}
-AllWhole q (t ∷ ts) = IsWholeOver q t.coef × AllWhole q ts
-
-record WholeAt (n at r q : ℕ) (ts : List NetTerm) : Type 0 where
-  now : (j : ℕ) → j < at + r → IsWholeOver q (coefficient (reads_now at j) ts)
-  old : (j : ℕ) → j < n → IsWholeOver q (coefficient (reads_old at j) ts)
-  input : (j : ℕ) → j < input_count → IsWholeOver q (coefficient (reads_input j) ts)
-
-zero_whole : (q : ℕ) → IsWholeOver q zero_fraction
-zero_whole q = omega arith
-
-whole_first : (n at r q : ℕ) (t : NetTerm) (ts : List NetTerm) → AreOnce (t ∷ ts) → WholeAt n at r q (t ∷ ts) → (from : NetRead) → t.from ≡ from → ReadFits n at r from → IsWholeOver q t.coef
-whole_first n at r q t ts once whole (Now s) e fit =
-    whole_here (reads_now at (at + s)) (now_picks at (at + s)) q t ts once (rw e (eq-eqb (at + s) (at + s) refl)) (whole.now (at + s) (omega arith))
-whole_first n at r q t ts once whole (Old s) e fit =
-    whole_here (reads_old at (at + s)) (old_picks at (at + s)) q t ts once (rw e (eq-eqb (at + s) (at + s) refl)) (whole.old (at + s) fit)
-whole_first n at r q t ts once whole (In s) e fit =
-    whole_here (reads_input s) (input_picks s) q t ts once (rw e (eq-eqb s s refl)) (whole.input s fit)
-
-all_whole : (n at r q : ℕ) (ts : List NetTerm) → AreOnce ts → AllFit n at r ts → WholeAt n at r q ts → AllWhole q ts
-all_whole n at r q [] once fits whole = tt
-all_whole n at r q (t ∷ ts) once fits whole = (
-  whole_first n at r q t ts once whole t.from refl fits.0,
-  all_whole n at r q ts once.2 fits.1 (record {
-    now = λ j l. whole_rest (reads_now at j) (now_picks at j) q t ts once (zero_whole q) (whole.now j l);
-    old = λ j l. whole_rest (reads_old at j) (old_picks at j) q t ts once (zero_whole q) (whole.old j l);
-    input = λ j l. whole_rest (reads_input j) (input_picks j) q t ts once (zero_whole q) (whole.input j l);
-  }),
-)
-
-whole_terms : (net : Net) (at q r : ℕ) (ts : List NetTerm) → IsDenominator net q → HasTerms net at r ts → AllWhole q ts
-whole_terms net at q r ts den h =
-    all_whole net.rows at r q ts h.once h.fits (record {
-      now = λ j l. subst (IsWholeOver q) (h.now j l) (den.now (at + r) j h.inside l);
-      old = λ j l. subst (IsWholeOver q) (h.old j l) (den.old (at + r) j h.inside l);
-      input = λ j l. subst (IsWholeOver q) (h.input j l) (den.input (at + r) j h.inside l);
-    })
+use Rattle.fx_net.proofs.Terms.{HasTerms, AllWhole, as_terms, whole_terms}
 
 -- ---- the equations' rows
 
@@ -121,7 +53,7 @@ over_one q = ap pos (omega arith)
 
 module _ (s : Equations) (net : Net) (at q g : ℕ) (u z : ℕ → ℕ → ℤ)
     (fits : EquationsFit s) (meets : MeetsEquations s) (holds : HoldsRows net at (expanded s)) (den : IsDenominator net q)
-    (divides : DividesEach g s.terms) (unkicked : AreUnkicked net q u z at (length (expanded s))) where
+    (divides : DividesEach g s.terms) (unperturbed : AreUnperturbed net q u z at (length (expanded s))) where
   abbrev y : ℕ → ℕ → ℤ
   y = exact_value s g u
 
@@ -157,7 +89,7 @@ module _ (s : Equations) (net : Net) (at q g : ℕ) (u z : ℕ → ℕ → ℤ)
   held_value k r from h e fit =
       let x : ℤ = value_at at from (of_now q z k (at + r)) (of_old net q z k (at + r)) (of_input net q u k (at + r)) in
       let o : over q one *ℤ x +ℤ pos 0 ≡ pos q *ℤ x = ap (λ w. w *ℤ x +ℤ pos 0) (over_one q) ∙ omega (arith, ints) in
-      unkicked k r h ∙ as_terms net at q r (record { coef = one; from = from } ∷ []) u z k (has r (record { coef = one; from = from } ∷ []) h e (tt, refl, tt) (fit, tt)) ∙ o
+      unperturbed k r h ∙ as_terms net at q r (record { coef = one; from = from } ∷ []) u z k (has r (record { coef = one; from = from } ∷ []) h e (tt, refl, tt) (fit, tt)) ∙ o
 
   record Moment (k : ℕ) : Type 0 where
     rows : (i : ℕ) → i < s.rows → Carries net q g s.rows y z k (row i) i 0
@@ -232,7 +164,7 @@ module _ (s : Equations) (net : Net) (at q g : ℕ) (u z : ℕ → ℕ → ℤ)
   row_at : (k i : ℕ) → i < s.rows → Before k → ((j : ℕ) → j < i → Carries net q g s.rows y z k (row j) j 0) → Carries net q g s.rows y z k (row i) i 0
   row_at k i h b now =
       let e : z k (row i) *ℤ pos (g ^ (k * s.rows + i) * g) ≡ y k i *ℤ pos (q ^ row_time net k (row i) * q) =
-      ap (λ x. x *ℤ pos (g ^ (k * s.rows + i) * g)) (unkicked k (row_place s i) (row_inside s i h) ∙ as_terms net at q (row_place s i) (net_terms s i s.terms) u z k (row_has i h))
+      ap (λ x. x *ℤ pos (g ^ (k * s.rows + i) * g)) (unperturbed k (row_place s i) (row_inside s i h) ∙ as_terms net at q (row_place s i) (net_terms s i s.terms) u z k (row_has i h))
       ∙ all_terms k i h b now s.terms (all_stand s fits) (whole_terms net at q (row_place s i) (net_terms s i s.terms) den (row_has i h)) divides
       ∙ ap (λ x. x *ℤ pos (q ^ row_time net k (row i) * q)) (sym (meets g u k i h)) in
       carries net q g s.rows y z k (row i) i 0
@@ -299,10 +231,10 @@ module _ (s : Equations) (net : Net) (at q g : ℕ) (u z : ℕ → ℕ → ℤ)
       carried net q g s.rows y z k (row i) i 0 ((before_all (suc k)).rows i h)
       ∙ ap (λ n. y k i *ℤ pos n) (ap (λ m. m * q ^ (row_time net k (row i) + 1)) (no_power g s.rows) ∙ (let o : 1 * q ^ (row_time net k (row i) + 1) ≡ q ^ (row_time net k (row i) + 1) = omega arith in o))
 
--- so in a run without kicks in these rows
-pub exact_in_run : (s : Equations) (net : Net) (at q g : ℕ) (u z kicks : ℕ → ℕ → ℤ) → EquationsFit s → MeetsEquations s → HoldsRows net at (expanded s) → IsDenominator net q →
-    DividesEach g s.terms → IsRun net q u z kicks → ((k r : ℕ) → r < length (expanded s) → kicks k (at + r) ≡ pos 0) → HasExactValues s g net q at u z
-exact_in_run s net at q g u z kicks fits meets holds den divides runs none =
+-- so in a run without perturbation in these rows
+pub exact_in_run : (s : Equations) (net : Net) (at q g : ℕ) (u z perturbations : ℕ → ℕ → ℤ) → EquationsFit s → MeetsEquations s → HoldsRows net at (expanded s) → IsDenominator net q →
+    DividesEach g s.terms → IsRun net q u z perturbations → ((k r : ℕ) → r < length (expanded s) → perturbations k (at + r) ≡ pos 0) → HasExactValues s g net q at u z
+exact_in_run s net at q g u z perturbations fits meets holds den divides runs none =
     exact_in_net s net at q g u z fits meets holds den divides
     (λ k r h.
     let all = holds.inside in

@@ -7,4 +7,7 @@ pub mod Exact
 pub mod Filling
 pub mod Numbers
 pub mod Positions
+pub mod Running
 pub mod Sources
+pub mod Terms
+pub mod Widest

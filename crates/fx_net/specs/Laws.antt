@@ -18,8 +18,8 @@ abbrev pub DividesEach : ℕ → List Term → Type 0
 DividesEach g terms = All (λ (t : Term). IsWholeOver g t.coef) terms
 
 -- so many rows from a place on have just what they read, at all moments
-abbrev pub AreUnkicked : Net → ℕ → (ℕ → ℕ → ℤ) → (ℕ → ℕ → ℤ) → ℕ → ℕ → Type 0
-AreUnkicked net q u z at count = (k r : ℕ) → r < count → z k (at + r) ≡ row_sum net q u z k (at + r)
+abbrev pub AreUnperturbed : Net → ℕ → (ℕ → ℕ → ℤ) → (ℕ → ℕ → ℤ) → ℕ → ℕ → Type 0
+AreUnperturbed net q u z at count = (k r : ℕ) → r < count → z k (at + r) ≡ row_sum net q u z k (at + r)
 
 -- each row of the equations has its exact value in the net, at all moments
 abbrev pub HasExactValues : Equations → ℕ → Net → ℕ → ℕ → (ℕ → ℕ → ℤ) → (ℕ → ℕ → ℤ) → Type 0
@@ -32,11 +32,11 @@ abbrev pub ExactInNet : Equations → Type 0
 ExactInNet eqs =
     (net : Net) (at q g : ℕ) (u z : ℕ → ℕ → ℤ) →
     HoldsRows net at (expanded eqs) → IsDenominator net q → DividesEach g eqs.terms →
-    AreUnkicked net q u z at (length (expanded eqs)) → HasExactValues eqs g net q at u z
+    AreUnperturbed net q u z at (length (expanded eqs)) → HasExactValues eqs g net q at u z
 
--- so it is in each run without kicks in these rows
+-- so it is in each run without perturbation in these rows
 abbrev pub ExactInRuns : Equations → Type 0
 ExactInRuns eqs =
-    (net : Net) (at q g : ℕ) (u z kicks : ℕ → ℕ → ℤ) →
+    (net : Net) (at q g : ℕ) (u z perturbations : ℕ → ℕ → ℤ) →
     HoldsRows net at (expanded eqs) → IsDenominator net q → DividesEach g eqs.terms →
-    IsRun net q u z kicks → ((k r : ℕ) → r < length (expanded eqs) → kicks k (at + r) ≡ pos 0) → HasExactValues eqs g net q at u z
+    IsRun net q u z perturbations → ((k r : ℕ) → r < length (expanded eqs) → perturbations k (at + r) ≡ pos 0) → HasExactValues eqs g net q at u z

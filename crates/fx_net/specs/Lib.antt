@@ -4,4 +4,5 @@ pub mod Net
 pub mod Parts
 pub mod Rows
 pub mod Run
+pub mod Running
 pub mod Tables

@@ -3,7 +3,7 @@ use Rattle.std.specs.Prelude.{◌≡◌, ℕ, ◌≤◌, ◌==◌, cond, unsigne
 use Rattle.fx_nums.specs.Fraction.{Fraction}
 use Rattle.fx_mat.specs.Entries.{zero_fraction, no_entries, put, IsZeroOutside}
 
--- coefficients by row and source, zero outside; and for each row how many half steps it may be off
+-- coefficients by row and source, zero outside; and the class of each row: how many half steps its perturbation may have
 pub record Net : Type 0 where
   pub rows : ℕ
   pub now : ℕ → ℕ → Fraction

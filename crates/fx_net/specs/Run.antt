@@ -21,14 +21,18 @@ abbrev pub row_time : Net → ℕ → ℕ → ℕ
 row_time net k i = k * net.rows + i
 
 -- The value of row j at moment k is z k j / q ^ (its row time + 1), and u k j is the word of input j.
--- What row i reads at moment k, over q ^ (its row time + 1).
-unfoldable pub row_sum : Net → ℕ → (ℕ → ℕ → ℤ) → (ℕ → ℕ → ℤ) → ℕ → ℕ → ℤ
-row_sum net q u z k i =
-    total i (λ j. over q (net.now i j) *ℤ z k j *ℤ pos (q ^ (i - j - 1)))
-    +ℤ total net.rows (λ j. over q (net.old i j) *ℤ before z k j *ℤ pos (q ^ (net.rows + i - j - 1)))
+-- What row i reads at moment k, over q ^ (its row time + 1), of the values of this moment and of the one before.
+abbrev pub row_reads : Net → ℕ → (ℕ → ℕ → ℤ) → ℕ → ℕ → (ℕ → ℤ) → (ℕ → ℤ) → ℤ
+row_reads net q u k i now old =
+    total i (λ j. over q (net.now i j) *ℤ now j *ℤ pos (q ^ (i - j - 1)))
+    +ℤ total net.rows (λ j. over q (net.old i j) *ℤ old j *ℤ pos (q ^ (net.rows + i - j - 1)))
     +ℤ total input_count (λ j. over q (net.input i j) *ℤ u k j *ℤ pos (q ^ row_time net k i))
 
--- each row has what it reads and a kick of at most so many half steps
-pub record IsRun (net : Net) (q : ℕ) (u z kicks : ℕ → ℕ → ℤ) : Type 0 where
-  pub row : (k i : ℕ) → i < net.rows → z k i ≡ row_sum net q u z k i +ℤ kicks k i
-  pub small : (k i : ℕ) → i < net.rows → 2 * unsigned_abs (kicks k i) ≤ net.halves i * q ^ (row_time net k i + 1)
+-- the same, of the values of all moments
+unfoldable pub row_sum : Net → ℕ → (ℕ → ℕ → ℤ) → (ℕ → ℕ → ℤ) → ℕ → ℕ → ℤ
+row_sum net q u z k i = row_reads net q u k i (z k) (before z k)
+
+-- each row has what it reads and a perturbation of at most so many half steps as its class says
+pub record IsRun (net : Net) (q : ℕ) (u z perturbations : ℕ → ℕ → ℤ) : Type 0 where
+  pub row : (k i : ℕ) → i < net.rows → z k i ≡ row_sum net q u z k i +ℤ perturbations k i
+  pub small : (k i : ℕ) → i < net.rows → 2 * unsigned_abs (perturbations k i) ≤ net.halves i * q ^ (row_time net k i + 1)

@@ -8,14 +8,7 @@ ghost use Rattle.fx_net.specs.Parts.{equations, input_holds, row_holds};
 use crate::layout::{Layout, Read, greatest_lag};
 use crate::net::Net;
 use fx_eqs::{Eqs, Source};
-use fx_nums::{Den, Frac};
-
-// 1 over 10^0.
-fn one() -> Frac
-    ensures { result ≡ one }
-{
-    Frac::new(1, Den::Ten(0)).unwrap()
-}
+use fx_nums::Frac;
 
 impl<const N: usize> Net<N> {
     // One more term of row `row` of those from `at` on.
@@ -39,7 +32,7 @@ impl<const N: usize> Net<N> {
     {
         let mut from = from;
         for row in place..place + count {
-            self.put_term(at, row, one(), from);
+            self.put_term(at, row, Frac::one(), from);
             from = Read::Old(row);
         }
     }

@@ -8,5 +8,7 @@ mod net;
 #[cfg(test)]
 mod tests;
 
-pub use laws::{common_divides_each, equation_rows_have_the_exact_values, rows_stand};
-pub use net::{Net, nets_fit};
+pub use laws::{
+    common_divides_each, each_net_has_a_run, equation_rows_have_the_exact_values, rows_stand,
+};
+pub use net::{Net, nets_fit, nets_have_a_denominator};

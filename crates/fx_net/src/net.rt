@@ -1,15 +1,17 @@
 ghost use Rattle.std.specs.Prelude.{◌≡◌, ◌<◌, ◌≤◌, IfOk};
 ghost use Rattle.fx_mat.specs.Entries.{zero_fraction};
 ghost use Rattle.fx_net.specs.Net.{NetFits, empty_net, plain, put_halves, put_input, put_now, put_old};
+ghost use Rattle.fx_net.specs.Run.{IsDenominator};
+ghost use Rattle.fx_net.specs.Running.{widest};
 ghost use Rattle.fx_net.specs.Tables.{net_of};
 
 use fx_mat::{FracMat, entries_outside_are_zero};
-use fx_nums::{Den, Frac};
+use fx_nums::Frac;
 use std::alloc::{AllocError, Global};
 use std::marker::Model;
 
 /// N rows, each with coefficients of rows of the same moment, of rows of the moment before and of four inputs, and with
-/// a class: how many half steps it may be off. N is 1 to 64.
+/// a class: how many half steps its perturbation may have. N is 1 to 64.
 #[derive(Drop)]
 pub struct Net<const N: usize> {
     present: FracMat<N, N>,
@@ -19,13 +21,13 @@ pub struct Net<const N: usize> {
 }
 
 impl<const N: usize> Model for Net<N> {
-    ghost use Rattle.fx_net.specs.Tables.{ClassesFit, Tables};
+    ghost use Rattle.fx_net.specs.Tables.{Tables, TablesFit};
 
     ghost Value = { Tables };
 
     ghost view = { λ n. record { size = N; present = n.present; past = n.past; inputs = n.inputs; classes = n.classes.items } };
 
-    ghost invariant = { λ n. ClassesFit N n.classes.items };
+    ghost invariant = { λ n. TablesFit N n.present n.past n.inputs n.classes.items };
 }
 
 // 0 over 10^0 for a fraction of value 0, each other as it is.
@@ -33,7 +35,7 @@ fn plain(c: Frac) -> Frac
     ensures { result ≡ plain c }
 {
     if c.num() == 0 {
-        return Frac::new(0, Den::Ten(0)).unwrap();
+        return Frac::zero();
     }
     c
 }
@@ -92,7 +94,7 @@ impl<const N: usize> Net<N> {
         self.inputs.set(i, j, plain(c));
     }
 
-    /// Sets the class of row `i`, below N: it may be off by `e` half steps, at most 2.
+    /// Sets the class of row `i`, below N: how many half steps its perturbation may have, at most 2.
     #[tactic(auto, using(crate::proofs::Numbers::written_number))]
     pub fn set_halves(&mut self, i: usize, e: u8)
         requires row { i < N }
@@ -129,7 +131,7 @@ impl<const N: usize> Net<N> {
         self.inputs.get(i, j)
     }
 
-    /// The class of row `i`, below N: how many half steps it may be off, at most 2.
+    /// The class of row `i`, below N: how many half steps its perturbation may have, at most 2.
     #[tactic(auto, using(crate::proofs::Numbers::number_read))]
     pub fn halves(&self, i: usize) -> u8
         requires row { i < N }
@@ -147,5 +149,13 @@ pub fn nets_fit<const N: usize>(net: &Net<N>)
     entries_outside_are_zero(&net.present);
     entries_outside_are_zero(&net.past);
     entries_outside_are_zero(&net.inputs);
+    let _ = &net.classes;
+}
+
+/// A law with nothing to run: 2^62 * 10^28 is a denominator of each net, since each coefficient is a fraction over a power
+/// of two up to 2^62 or of ten up to 10^28.
+pub fn nets_have_a_denominator<const N: usize>(net: &Net<N>)
+    ensures { IsDenominator (net_of net.now) widest }
+{
     let _ = &net.classes;
 }

@@ -1,4 +1,5 @@
-ghost use Rattle.std.specs.Prelude.{◌≡◌, ◌↔◌, ◌^◌, ◌<◌, ◌≤◌, SomeIff, IsTrue, neg_ℤ};
+ghost use Rattle.std.specs.Prelude.{◌≡◌, ◌↔◌, ◌^◌, ◌<◌, ◌≤◌, SomeIff, IsTrue, neg_ℤ, pos};
+ghost use Rattle.fx_nums.specs.declared.fraction.Den.TheVariants.{Ten};
 ghost use Rattle.fx_nums.specs.Fraction.{den_value, DenFits, FractionFits};
 
 use std::marker::Model;
@@ -66,6 +67,26 @@ impl Frac {
             return None;
         }
         Some(Frac { num, den })
+    }
+
+    /// The number 0, over 10^0.
+    pub fn zero() -> Frac
+        ensures { result ≡ record { num = pos 0; den = Ten 0 } }
+    {
+        Frac {
+            num: 0,
+            den: Den::Ten(0),
+        }
+    }
+
+    /// The number 1, over 10^0.
+    pub fn one() -> Frac
+        ensures { result ≡ record { num = pos 1; den = Ten 0 } }
+    {
+        Frac {
+            num: 1,
+            den: Den::Ten(0),
+        }
     }
 
     /// The numerator.

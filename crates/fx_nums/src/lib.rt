@@ -27,6 +27,7 @@ mod tests {
         assert_eq!(rt; largest.num(), 16777215);
         assert_eq!(rt; largest.den(), Den::Ten(0));
         assert_eq!(rt; largest.neg().num(), -16777215);
+        assert_eq!(rt; (Frac::zero().num(), Frac::one().num()), (0, 1));
         let refused = [
             (16777216, Den::Ten(0)),
             (-16777216, Den::Ten(0)),

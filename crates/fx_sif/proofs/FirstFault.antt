@@ -1,34 +1,20 @@
 -- The first fault is never want of memory, so the answer that carries it tells it.
-use Rattle.std.proofs.Common.{◌≡◌, Bool, true, false, List, [], ◌∷◌, ◌++◌, Option, Some, None, subst, rules}
-use Rattle.std.specs.Option.{option_or}
-use Rattle.fx_sif.specs.Faults.{fault_if, entry_fault, entries_fault, sif_fault, told}
+use Rattle.std.proofs.Common.{◌≡◌, List, [], ◌∷◌, ◌++◌, Some, rules}
+use Rattle.fx_math.proofs.Faults.{IsTold, none_told, if_told, or_told}
+use Rattle.fx_sif.specs.Faults.{entry_fault, entries_fault, sif_fault, told}
 use Rattle.fx_sif.specs.declared.parts.Entry.{Entry}
 use Rattle.fx_sif.specs.declared.parts.Sizes.{Sizes}
 use Rattle.fx_sif.specs.declared.fault.SifFault.{SifFault}
 
-record IsTold (first : Option SifFault) : Type 0 where
-  says : (fault : SifFault) → first ≡ Some fault → first ≡ told fault
+entry_told : (s : Sizes) (earlier : List Entry) (e : Entry) → IsTold told (entry_fault s earlier e)
+entry_told s earlier e = search (rules, if_told, none_told) depth 9
 
-none_told : IsTold None
-none_told = record { says = λ fault e. cc }
+entries_told : (s : Sizes) (earlier es : List Entry) → IsTold told (entries_fault s earlier es)
+entries_told s earlier [] = none_told told
+entries_told s earlier (e ∷ es) = or_told told _ _ (entry_told s earlier e) (entries_told s (earlier ++ e ∷ []) es)
 
-if-told : (test : Bool) (fault : SifFault) (rest : Option SifFault) → Some fault ≡ told fault → IsTold rest → IsTold (fault_if test fault rest)
-if-told true fault rest t r = record { says = λ other same. let e : fault ≡ other = cc in subst (λ x. Some fault ≡ told x) e t }
-if-told false fault rest t r = r
+all_told : (s : Sizes) (entries : List Entry) → IsTold told (sif_fault s entries)
+all_told s entries = search (rules, if_told, entries_told) depth 9
 
-or-told : (first rest : Option SifFault) → IsTold first → IsTold rest → IsTold (option_or first rest)
-or-told None rest f r = r
-or-told (Some fault) rest f r = f
-
-entry-told : (s : Sizes) (earlier : List Entry) (e : Entry) → IsTold (entry_fault s earlier e)
-entry-told s earlier e = search (rules, if-told, none_told) depth 9
-
-entries-told : (s : Sizes) (earlier es : List Entry) → IsTold (entries_fault s earlier es)
-entries-told s earlier [] = none_told
-entries-told s earlier (e ∷ es) = or-told _ _ (entry-told s earlier e) (entries-told s (earlier ++ e ∷ []) es)
-
-all-told : (s : Sizes) (entries : List Entry) → IsTold (sif_fault s entries)
-all-told s entries = search (rules, if-told, entries-told) depth 9
-
-pub fault-told : (s : Sizes) (entries : List Entry) (fault : SifFault) → sif_fault s entries ≡ Some fault → sif_fault s entries ≡ told fault
-fault-told s entries = (all-told s entries).says
+pub fault_told : (s : Sizes) (entries : List Entry) (fault : SifFault) → sif_fault s entries ≡ Some fault → sif_fault s entries ≡ told fault
+fault_told s entries = (all_told s entries).says

@@ -1,30 +1,21 @@
 -- What the tests refuse not, fits.
-use Rattle.std.proofs.Common.{◌≡◌, ℕ, ◌<◌, ◌≤◌, Bool, true, false, not, ◌&&◌, eqb, ltb, List, [], ◌∷◌, ◌++◌, All, Option, Some, None, refl, arith, nat_le, pos, negsuc, ℤ, int_lt, unsigned_abs, append_assoc, ap, sym, ◌∙◌}
-use Rattle.std.specs.Option.{option_or}
+use Rattle.std.proofs.Common.{◌≡◌, ℕ, ◌<◌, ◌≤◌, Bool, true, false, not, ◌&&◌, eqb, ltb, List, [], ◌∷◌, ◌++◌, All, None, arith, nat_le, pos, negsuc, ℤ, int_lt, unsigned_abs, append_assoc, ap, sym, ◌∙◌}
 use Rattle.std.specs.List.{IsDistinct, AllByRecursion, list_any}
 use Rattle.std.proofs.lemmas.Bool.{or_parts, ltb-false, eq-eqb, lt-ltb}
 use Rattle.std.proofs.lemmas.Bool.Decides.{nat_tests}
 use Rattle.std.proofs.lemmas.List.Elements.{All-nil, All-cons}
+use Rattle.fx_math.proofs.Faults.{if_none, or_none}
 use Rattle.fx_nums.specs.Fraction.{Fraction, den_value}
 use Rattle.fx_sif.specs.Blocks.{same_place}
-use Rattle.fx_sif.specs.Faults.{fault_if, is_out, breaks_unit_lower, entry_fault, entries_fault, sif_fault, is_one, is_zero}
+use Rattle.fx_sif.specs.Faults.{is_out, breaks_unit_lower, entry_fault, entries_fault, sif_fault, is_one, is_zero}
 use Rattle.fx_sif.specs.Fits.{KeepsUnitLower, EntryFits, FormFits}
 use Rattle.fx_sif.specs.Form.{rows}
 use Rattle.fx_sif.specs.declared.parts.Block.{Block}
 use Rattle.fx_sif.specs.declared.parts.Block.TheVariants.{J, K, L, M, N, P, Q, R, S}
 use Rattle.fx_sif.specs.declared.parts.Entry.{Entry}
 use Rattle.fx_sif.specs.declared.parts.Sizes.{Sizes}
-use Rattle.fx_sif.specs.declared.fault.SifFault.{SifFault}
 
 -- ---- what no fault means
-
-if-none : (test : Bool) (fault : SifFault) (rest : Option SifFault) → fault_if test fault rest ≡ None → (test ≡ false) × (rest ≡ None)
-if-none true fault rest e = cc
-if-none false fault rest e = (refl, e)
-
-or-none : (first rest : Option SifFault) → option_or first rest ≡ None → (first ≡ None) × (rest ≡ None)
-or-none None rest e = (refl, e)
-or-none (Some fault) rest e = cc
 
 not_le : (a b : ℕ) → nat_le a b ≡ false → b < a
 not_le a b h = grind (arith, nat_tests)
@@ -71,10 +62,10 @@ record EntryPasses (s : Sizes) (earlier : List Entry) (e : Entry) : Type 0 where
 
 passes : (s : Sizes) (earlier : List Entry) (e : Entry) → entry_fault s earlier e ≡ None → EntryPasses s earlier e
 passes s earlier e h =
-    let shape = if-none _ _ _ h in
+    let shape = if_none _ _ _ h in
     let tests = or_parts _ _ shape.0 in
-    let unit = if-none _ _ _ shape.1 in
-    let once = if-none _ _ _ unit.1 in
+    let unit = if_none _ _ _ shape.1 in
+    let once = if_none _ _ _ unit.1 in
     record {
       fits = record { row = not_le _ _ tests.0; column = not_le _ _ tests.1; unit_lower = keeps e.block e.i e.j e.coef unit.0 };
       once = once.0;
@@ -85,7 +76,7 @@ passes s earlier e h =
 entries_fit : (s : Sizes) (earlier es : List Entry) → entries_fault s earlier es ≡ None → All (EntryFits s) es
 entries_fit s earlier [] h = All-nil (EntryFits s)
 entries_fit s earlier (e ∷ es) h =
-    let p = or-none _ _ h in
+    let p = or_none _ _ h in
     All-cons (EntryFits s) e es (passes s earlier e p.0).fits (entries_fit s (earlier ++ e ∷ []) es p.1)
 
 -- a test that no element of a list passes, fails at each
@@ -97,7 +88,7 @@ fails_at test (b ∷ before) after e h = fails_at test before after e (or_parts 
 apart : (s : Sizes) (before after : List Entry) (e : Entry) (es : List Entry) → entries_fault s (before ++ e ∷ after) es ≡ None → AllByRecursion (λ (g : Entry). same_place g e ≡ false) es
 apart s before after e [] h = tt
 apart s before after e (g ∷ es) h =
-    let p = or-none _ _ h in
+    let p = or_none _ _ h in
     let rest = apart s before (after ++ g ∷ []) e es (ap (λ x. entries_fault s x es) (sym (append_assoc before (e ∷ after) (g ∷ []))) ∙ p.1) in
     (fails_at (same_place g) before after e (passes s (before ++ e ∷ after) g p.0).once, rest)
 
@@ -105,16 +96,16 @@ once_each : (s : Sizes) (earlier es : List Entry) → entries_fault s earlier es
 unfolding IsDistinct
 once_each s earlier [] h = tt
 once_each s earlier (e ∷ es) h =
-    let p = or-none _ _ h in
+    let p = or_none _ _ h in
     (apart s earlier [] e es p.1, once_each s (earlier ++ e ∷ []) es p.1)
 
 -- ---- the form
 
 pub form_fits : (s : Sizes) (entries : List Entry) → sif_fault s entries ≡ None → FormFits (record { sizes = s; entries = entries })
 form_fits s entries h =
-    let row = if-none _ _ _ h in
-    let input = if-none _ _ _ row.1 in
-    let output = if-none _ _ _ input.1 in
+    let row = if_none _ _ _ h in
+    let input = if_none _ _ _ row.1 in
+    let output = if_none _ _ _ input.1 in
     let r = inside 40 (rows s) row.0 in
     let u = inside 4 s.u input.0 in
     let y = inside 4 s.y output.0 in

@@ -1,7 +1,8 @@
 mod FirstFault
 mod InBlocks
-mod Kept
-mod Matches
+pub mod Kept
+pub mod Matches
 mod NoFault
 pub mod Placing
 pub mod Summing
+mod Widest

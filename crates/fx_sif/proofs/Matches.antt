@@ -1,6 +1,6 @@
 -- When an entry stands in a place, by its row and what it reads.
 use Rattle.std.proofs.Common.{◌≡◌, ℕ, zero, suc, ◌+◌, ◌<◌, ◌⊎◌, inl, inr, Bool, true, false, ◌&&◌, eqb, refl, arith, sym, ap, ap₂, ◌∙◌}
-use Rattle.std.proofs.lemmas.Bool.{eq-eqb, ne_eqb, cases_eq, eqb-true}
+use Rattle.std.proofs.lemmas.Bool.{and_from, and_parts, eq-eqb, ne_eqb, cases_eq, eqb-true}
 use Rattle.fx_eqs.specs.Expanded.{NetRead}
 use Rattle.fx_eqs.specs.Expanded.NetRead.{Now, Old, In}
 use Rattle.fx_sif.specs.Blocks.{height, same_block, is_at}
@@ -50,13 +50,6 @@ column_group S = Ends
 
 -- ---- tests
 
-pub both : (a b : Bool) → a && b ≡ true → (a ≡ true) × (b ≡ true)
-both true b h = (refl, h)
-both false b h = cc
-
-pub both_from : (a b : Bool) → a ≡ true → b ≡ true → a && b ≡ true
-both_from a b x y = rw (x, y) refl
-
 pub shifted : (n i j : ℕ) → eqb (n + i) (n + j) ≡ eqb i j
 shifted n i j = by_place (cases_eq i j)
   where
@@ -74,7 +67,7 @@ turned i j = by_place (cases_eq i j)
 -- ---- blocks
 
 -- each block in turn
-nine : (X : Block → Type 0) → X J → X K → X L → X M → X N → X P → X Q → X R → X S → (b : Block) → X b
+pub nine : (X : Block → Type 0) → X J → X K → X L → X M → X N → X P → X Q → X R → X S → (b : Block) → X b
 nine X j k l m n p q r s J = j
 nine X j k l m n p q r s K = k
 nine X j k l m n p q r s L = l
@@ -149,12 +142,12 @@ same_is a b e =
 -- and an entry in a place has its block, row and column
 pub stands_at : (b : Block) (i j : ℕ) (e : Entry) → is_at b i j e ≡ true → (e.block ≡ b) × ((e.i ≡ i) × (e.j ≡ j))
 stands_at b i j e h =
-    let outer = both (same_block e.block b) (eqb e.i i && eqb e.j j) h in
-    let inner = both (eqb e.i i) (eqb e.j j) outer.1 in
+    let outer = and_parts (same_block e.block b) (eqb e.i i && eqb e.j j) h in
+    let inner = and_parts (eqb e.i i) (eqb e.j j) outer.1 in
     (same_is e.block b outer.0, (eqb-true e.i i inner.0, eqb-true e.j j inner.1))
 
 pub stands_from : (b : Block) (i j : ℕ) (e : Entry) → e.block ≡ b → e.i ≡ i → e.j ≡ j → is_at b i j e ≡ true
-stands_from b i j e x y z = rw (x, y, z) (both_from (same_block b b) (eqb i i && eqb j j) (number-is b b ∙ eq-eqb (number b) (number b) refl) (both_from (eqb i i) (eqb j j) (eq-eqb i i refl) (eq-eqb j j refl)))
+stands_from b i j e x y z = rw (x, y, z) (and_from (same_block b b) (eqb i i && eqb j j) (number-is b b ∙ eq-eqb (number b) (number b) refl) (and_from (eqb i i) (eqb j j) (eq-eqb i i refl) (eq-eqb j j refl)))
 
 -- ---- rows
 

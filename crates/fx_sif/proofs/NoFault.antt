@@ -1,6 +1,5 @@
 -- What fits has no fault.
-use Rattle.std.proofs.Common.{◌≡◌, ℕ, zero, suc, ◌<◌, ◌≤◌, ◌⊎◌, inl, inr, Bool, true, false, not, ◌&&◌, eqb, ltb, int_lt, pos, unsigned_abs, ℤ, List, [], ◌∷◌, ◌++◌, All, get_or, Option, None, refl, arith, ◌∙◌}
-use Rattle.std.specs.Option.{option_or}
+use Rattle.std.proofs.Common.{◌≡◌, ℕ, zero, suc, ◌<◌, ◌≤◌, ◌⊎◌, inl, inr, Bool, true, false, not, ◌&&◌, eqb, ltb, int_lt, pos, unsigned_abs, ℤ, List, [], ◌∷◌, ◌++◌, All, get_or, None, refl, arith, ◌∙◌}
 use Rattle.std.specs.List.{IsDistinct, list_any}
 use Rattle.std.proofs.lemmas.Bool.{lt-leb, le-ltb, ne_eqb, eq-eqb, or_from, and_from, le-leb, and_left, cases_eq, cases_lt}
 use Rattle.std.proofs.lemmas.Bool.Decides.{nat_tests}
@@ -8,12 +7,13 @@ use Rattle.std.proofs.lemmas.List.Elements.{All-head, All-tail}
 use Rattle.std.proofs.lemmas.Map.Keys.{IsDistinct-tail}
 use Rattle.std.proofs.lemmas.List.Folds.{list_any-append}
 use Rattle.std.proofs.Math.Nat.{one-le-pow}
+use Rattle.fx_math.proofs.Faults.{none_if, none_or}
 use Rattle.fx_nums.specs.Fraction.{Fraction, den_value}
 use Rattle.fx_nums.specs.declared.fraction.Den.{Den}
 use Rattle.fx_nums.specs.declared.fraction.Den.TheVariants.{Two, Ten}
 use Rattle.fx_eqs.proofs.Distinct.{distinct_head}
 use Rattle.fx_sif.specs.Blocks.{height, width, same_place}
-use Rattle.fx_sif.specs.Faults.{fault_if, is_out, is_one, is_zero, breaks_unit_lower, entry_fault, entries_fault}
+use Rattle.fx_sif.specs.Faults.{is_out, is_one, is_zero, breaks_unit_lower, entry_fault, entries_fault}
 use Rattle.fx_sif.specs.Fits.{IsUnitLower, KeepsUnitLower, EntryFits}
 use Rattle.fx_sif.specs.Form.{rows}
 use Rattle.fx_sif.specs.Laws.{WhatFitsHasNoFault}
@@ -21,14 +21,6 @@ use Rattle.fx_sif.specs.declared.parts.Block.{Block}
 use Rattle.fx_sif.specs.declared.parts.Block.TheVariants.{J, K, L, M, N, P, Q, R, S}
 use Rattle.fx_sif.specs.declared.parts.Entry.{Entry}
 use Rattle.fx_sif.specs.declared.parts.Sizes.{Sizes}
-use Rattle.fx_sif.specs.declared.fault.SifFault.{SifFault}
-
-none_if : (test : Bool) (fault : SifFault) (rest : Option SifFault) → test ≡ false → rest ≡ None → fault_if test fault rest ≡ None
-none_if true fault rest e r = cc
-none_if false fault rest e r = r
-
-none_or : (first rest : Option SifFault) → first ≡ None → rest ≡ None → option_or first rest ≡ None
-none_or first rest e r = rw (e, r)
 
 -- ---- J
 

@@ -9,7 +9,7 @@ use Rattle.fx_nums.specs.Fraction.{Fraction}
 use Rattle.fx_mat.specs.Entries.{zero_fraction}
 use Rattle.fx_eqs.specs.Expanded.{NetRead, NetTerm, joined}
 use Rattle.fx_eqs.specs.Expanded.NetRead.{Now, Old, In}
-use Rattle.fx_net.specs.Net.{Net, plain, empty_net}
+use Rattle.fx_net.specs.Net.{Net, plain}
 use Rattle.fx_net.specs.Rows.{reads_now, reads_old, reads_input, coefficient_or, coefficient, row_of, is_within, put_table, put_rows, put_term, AreEmpty}
 use Rattle.fx_sif.specs.Blocks.{height}
 use Rattle.fx_sif.specs.Fits.{EntryFits}
@@ -206,7 +206,3 @@ entries_make_rows f at net fits empty =
     (table_is (λ net. net.old) reads_old old-takes f at net fits empty.old)
     (table_is (λ net. net.input) (λ at j from. reads_input j from) input-takes f at net fits empty.input)
     (keeps.0 ∙ halves_are at (rows f.sizes) net empty.halves ∙ ap (λ n i. cond (is_within at n i) 0 (net.halves i)) (sym (length-rows f)))
-
--- a net that is empty is so from each place on
-pub empty_rows : (at count n : ℕ) (net : Net) → net ≡ empty_net n → AreEmpty at count net
-empty_rows at count n net e = rw e (record { now = λ i j l h. refl; old = λ i j l h. refl; input = λ i j l h. refl; halves = λ i l h. refl })

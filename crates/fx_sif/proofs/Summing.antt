@@ -1,23 +1,22 @@
 -- In a run of a form alone each row is the sum of its terms.
-use Rattle.std.proofs.Common.{◌≡◌, ℕ, ◌+◌, ◌-◌, ◌*◌, ◌^◌, ◌<◌, ◌≤◌, Bool, true, false, cond, ◌&&◌, eqb, nat_le, nat_lt, List, [], ◌∷◌, map, filter, length, All, refl, arith, sym, ap, ap₂, ◌∙◌, subst, unsigned_abs}
+use Rattle.std.proofs.Common.{◌≡◌, ℕ, ◌+◌, ◌-◌, ◌<◌, ◌≤◌, Bool, true, false, cond, ◌&&◌, eqb, nat_le, nat_lt, List, [], ◌∷◌, map, filter, length, All, refl, arith, sym, ap, ap₂, ◌∙◌, unsigned_abs}
 use Rattle.std.proofs.Math.IntN.{ℤ, pos, ◌+ℤ◌, ◌*ℤ◌}
 use Rattle.std.specs.List.{IsDistinct}
 use Rattle.std.proofs.lemmas.Int.{ints}
-use Rattle.std.proofs.lemmas.Bool.{eq-eqb, eqb-true, cond-true, and_from, le-leb, lt-ltb, ltb-true, true≢false}
+use Rattle.std.proofs.lemmas.Bool.{eq-eqb, eqb-true, cond-true, and_from, and_parts, le-leb, lt-ltb, ltb-true, true≢false}
 use Rattle.std.proofs.lemmas.List.Elements.{All-head, All-tail, All-nil, All-cons}
 use Rattle.std.proofs.lemmas.Map.Keys.{IsDistinct-tail}
-use Rattle.fx_math.proofs.Ring.{mul_assoc}
-use Rattle.fx_math.proofs.Sums.{total_ext}
-use Rattle.fx_math.specs.Sums.{total}
 use Rattle.fx_nums.specs.Fraction.{Fraction, over, IsWholeOver}
 use Rattle.fx_mat.specs.Entries.{zero_fraction}
 use Rattle.fx_eqs.specs.Expanded.{NetRead, NetTerm}
 use Rattle.fx_eqs.specs.Expanded.NetRead.{Now, Old, In}
 use Rattle.fx_eqs.proofs.Distinct.{distinct_head}
-use Rattle.fx_net.specs.Net.{Net, plain, input_count}
+use Rattle.fx_net.specs.Net.{Net, plain}
 use Rattle.fx_net.specs.Rows.{reads_now, reads_old, reads_input, coefficient_or, coefficient, row_of, put_rows, ReadFits}
-use Rattle.fx_net.specs.Run.{before, row_time, row_sum}
-use Rattle.fx_net.proofs.Coefficients.{NotRead, AreOnce, AllFit, taken, coefficient_over, now_picks, old_picks, input_picks, value_at, net_sum, sum_by_source, whole_here, whole_rest}
+use Rattle.fx_net.specs.Run.{row_sum}
+use Rattle.fx_net.proofs.Coefficients.{NotRead, AreOnce, AllFit, value_at, net_sum}
+use Rattle.fx_net.proofs.Carried.{of_now, of_old, of_input}
+use Rattle.fx_net.proofs.Terms.{HasTerms, AllWhole, as_terms, whole_terms}
 use Rattle.fx_sif.specs.Blocks.{height, width, is_at, same_place}
 use Rattle.fx_sif.specs.Fits.{EntryFits, FormFits}
 use Rattle.fx_sif.specs.Form.{Form, rows}
@@ -29,7 +28,7 @@ use Rattle.fx_sif.specs.declared.parts.Block.TheVariants.{J, K, L, M, N, P, Q, R
 use Rattle.fx_sif.specs.declared.parts.Entry.{Entry}
 use Rattle.fx_sif.specs.declared.parts.Sizes.{Sizes}
 use Rattle.fx_sif.proofs.Kept.{is_zero-value}
-use Rattle.fx_sif.proofs.Matches.{both, same_read, stands_at, stands_from, place_matches}
+use Rattle.fx_sif.proofs.Matches.{same_read, stands_at, stands_from, place_matches}
 use Rattle.fx_sif.proofs.Placing.{length-rows, row-rows}
 
 -- ---- coefficients of value 0
@@ -69,7 +68,7 @@ same_itself (Old a) = eq-eqb a a refl
 same_itself (In a) = eq-eqb a a refl
 
 -- a row of a form reads what is there
-reads_there : (s : Sizes) (r : ℕ) (b : Block) (i j : ℕ) → s.u ≤ 4 → i < height s b → j < width s b → is_read b i j ≡ true → row_place s b i ≡ r → ReadFits (rows s) 0 r (net_read s b j)
+pub reads_there : (s : Sizes) (r : ℕ) (b : Block) (i j : ℕ) → s.u ≤ 4 → i < height s b → j < width s b → is_read b i j ≡ true → row_place s b i ≡ r → ReadFits (rows s) 0 r (net_read s b j)
 reads_there s r J i j few h k read place = let below : j < i = ltb-true j i read in omega arith
 reads_there s r K i j few h k read place = omega arith
 reads_there s r L i j few h k read place = omega arith
@@ -86,7 +85,7 @@ in_row : (Claim : List NetTerm → Type 0) (s : Sizes) (r : ℕ) (e : Entry) (es
 in_row Claim s r e es here elsewhere = by_test (is_in_row s r e) refl
   where
     by_test : (b : Bool) → is_in_row s r e ≡ b → Claim (map plain_term (map (term_of s) (cond b (e ∷ filter (is_in_row s r) es) (filter (is_in_row s r) es))))
-    by_test true h = let p = both (is_read e.block e.i e.j) (eqb (row_place s e.block e.i) r) h in here p.0 (eqb-true (row_place s e.block e.i) r p.1)
+    by_test true h = let p = and_parts (is_read e.block e.i e.j) (eqb (row_place s e.block e.i) r) h in here p.0 (eqb-true (row_place s e.block e.i) r p.1)
     by_test false h = elsewhere
 
 all_fit : (s : Sizes) (r : ℕ) (es : List Entry) → s.u ≤ 4 → All (EntryFits s) es → AllFit (rows s) 0 r (plains s es r)
@@ -128,13 +127,16 @@ once s r (e ∷ es) fits apart =
 -- ---- the net
 
 -- a row of the net alone has its row's coefficients
-row_has : (reads : NetRead → Bool) (f : Form) (r : ℕ) (c : Fraction) → r < rows f.sizes →
-    cond (nat_le 0 r && nat_lt r (0 + length (rows_of f))) (coefficient reads (row_of (rows_of f) (r - 0))) c ≡ coefficient reads (plains f.sizes f.entries r)
-row_has reads f r c h =
+pub row_is : (reads : NetRead → Bool) (f : Form) (r : ℕ) (c : Fraction) → r < rows f.sizes →
+    cond (nat_le 0 r && nat_lt r (0 + length (rows_of f))) (coefficient reads (row_of (rows_of f) (r - 0))) c ≡ coefficient reads (net_row f.sizes f.entries r)
+row_is reads f r c h =
     cond-true _ _ _ (and_from _ _ (le-leb 0 r (omega arith)) (lt-ltb r (0 + length (rows_of f)) (omega (arith, h, length-rows f))))
     ∙ ap (λ p. coefficient reads (row_of (rows_of f) p)) (let same : r - 0 ≡ r = omega arith in same)
     ∙ ap (coefficient reads) (row-rows f r h)
-    ∙ sym (plain_coefficient reads zero_fraction (net_row f.sizes f.entries r))
+
+row_has : (reads : NetRead → Bool) (f : Form) (r : ℕ) (c : Fraction) → r < rows f.sizes →
+    cond (nat_le 0 r && nat_lt r (0 + length (rows_of f))) (coefficient reads (row_of (rows_of f) (r - 0))) c ≡ coefficient reads (plains f.sizes f.entries r)
+row_has reads f r c h = row_is reads f r c h ∙ sym (plain_coefficient reads zero_fraction (net_row f.sizes f.entries r))
 
 now_has : (f : Form) (r j : ℕ) → r < rows f.sizes → (net_alone f).now r j ≡ coefficient (reads_now 0 j) (plains f.sizes f.entries r)
 unfolding put_rows
@@ -152,97 +154,49 @@ rows_alone : (f : Form) → (net_alone f).rows ≡ rows f.sizes
 unfolding put_rows
 rows_alone f = refl
 
+-- a row of the net alone has its row's terms
+has_terms : (f : Form) (r : ℕ) → FormFits f → r < rows f.sizes → HasTerms (net_alone f) 0 r (plains f.sizes f.entries r)
+has_terms f r fits h =
+    let first : 0 + r ≡ r = omega arith in
+    let inside : 0 + r < rows f.sizes = omega (arith, h) in
+    record {
+      inside = rw (rows_alone f) inside;
+      once = once f.sizes r f.entries fits.entries fits.once;
+      fits = rw (rows_alone f) (all_fit f.sizes r f.entries fits.inputs_high fits.entries);
+      now = λ j l. ap (λ i. (net_alone f).now i j) first ∙ now_has f r j h;
+      old = λ j l. ap (λ i. (net_alone f).old i j) first ∙ old_has f r j h;
+      input = λ j l. ap (λ i. (net_alone f).input i j) first ∙ input_has f r j h;
+    }
+
 -- ---- the sums
 
--- the values of rows and inputs, brought to a row's denominator
-abbrev of_now : ℕ → (ℕ → ℕ → ℤ) → ℕ → ℕ → ℕ → ℤ
-of_now q z k r j = z k j *ℤ pos (q ^ (r - j - 1))
+value_is : (net : Net) (q : ℕ) (u z : ℕ → ℕ → ℤ) (k r : ℕ) (from : NetRead) → value_at 0 from (of_now q z k r) (of_old net q z k r) (of_input net q u k r) ≡ read_value net.rows q u z k r from
+value_is net q u z k r (Now j) = let same : 0 + j ≡ j = omega arith in ap (of_now q z k r) same
+value_is net q u z k r (Old j) = let same : 0 + j ≡ j = omega arith in ap (of_old net q z k r) same
+value_is net q u z k r (In j) = refl
 
-abbrev of_old : ℕ → ℕ → (ℕ → ℕ → ℤ) → ℕ → ℕ → ℕ → ℤ
-of_old n q z k r j = before z k j *ℤ pos (q ^ (n + r - j - 1))
-
-abbrev of_input : ℕ → ℕ → (ℕ → ℕ → ℤ) → ℕ → ℕ → ℕ → ℤ
-of_input n q u k r j = u k j *ℤ pos (q ^ (k * n + r))
-
-value_is : (n q : ℕ) (u z : ℕ → ℕ → ℤ) (k r : ℕ) (from : NetRead) → value_at 0 from (of_now q z k r) (of_old n q z k r) (of_input n q u k r) ≡ read_value n q u z k r from
-value_is n q u z k r (Now j) = let same : 0 + j ≡ j = omega arith in ap (of_now q z k r) same
-value_is n q u z k r (Old j) = let same : 0 + j ≡ j = omega arith in ap (of_old n q z k r) same
-value_is n q u z k r (In j) = refl
-
-sum_is : (n q : ℕ) (u z : ℕ → ℕ → ℤ) (k r : ℕ) (ts : List NetTerm) → net_sum q 0 (map plain_term ts) (of_now q z k r) (of_old n q z k r) (of_input n q u k r) ≡ terms_value n q u z k r ts
-sum_is n q u z k r [] = refl
-sum_is n q u z k r (t ∷ ts) = ap₂ (λ x y. x +ℤ y) (ap₂ (λ x y. x *ℤ y) (over-plain q t.coef) (value_is n q u z k r t.from)) (sum_is n q u z k r ts)
-
--- what row r reads of a net whose row r has these coefficients
-from_table : (net : Net) (q : ℕ) (u z : ℕ → ℕ → ℤ) (k r : ℕ) (ts : List NetTerm) → AreOnce ts →
-    ((j : ℕ) → net.now r j ≡ coefficient (reads_now 0 j) ts) → ((j : ℕ) → net.old r j ≡ coefficient (reads_old 0 j) ts) → ((j : ℕ) → net.input r j ≡ coefficient (reads_input j) ts) →
-    row_sum net q u z k r
-    ≡ total r (λ j. taken (reads_now 0 j) q ts *ℤ of_now q z k r j) +ℤ total net.rows (λ j. taken (reads_old 0 j) q ts *ℤ of_old net.rows q z k r j)
-    +ℤ total input_count (λ j. taken (reads_input j) q ts *ℤ of_input net.rows q u k r j)
-unfolding row_sum
-from_table net q u z k r ts apart now old input =
-    ap₂ (λ x y. x +ℤ y)
-    (ap₂ (λ x y. x +ℤ y)
-    (total_ext r (λ j. over q (net.now r j) *ℤ z k j *ℤ pos (q ^ (r - j - 1))) (λ j. taken (reads_now 0 j) q ts *ℤ of_now q z k r j)
-    (λ j l. mul_assoc (over q (net.now r j)) (z k j) (pos (q ^ (r - j - 1))) ∙ ap (λ y. y *ℤ of_now q z k r j) (ap (over q) (now j) ∙ coefficient_over (reads_now 0 j) (now_picks 0 j) q ts apart)))
-    (total_ext net.rows (λ j. over q (net.old r j) *ℤ before z k j *ℤ pos (q ^ (net.rows + r - j - 1))) (λ j. taken (reads_old 0 j) q ts *ℤ of_old net.rows q z k r j)
-    (λ j l. mul_assoc (over q (net.old r j)) (before z k j) (pos (q ^ (net.rows + r - j - 1))) ∙ ap (λ y. y *ℤ of_old net.rows q z k r j) (ap (over q) (old j) ∙ coefficient_over (reads_old 0 j) (old_picks 0 j) q ts apart))))
-    (total_ext input_count (λ j. over q (net.input r j) *ℤ u k j *ℤ pos (q ^ row_time net k r)) (λ j. taken (reads_input j) q ts *ℤ of_input net.rows q u k r j)
-    (λ j l. mul_assoc (over q (net.input r j)) (u k j) (pos (q ^ row_time net k r)) ∙ ap (λ y. y *ℤ of_input net.rows q u k r j) (ap (over q) (input j) ∙ coefficient_over (reads_input j) (input_picks j) q ts apart)))
+sum_is : (net : Net) (q : ℕ) (u z : ℕ → ℕ → ℤ) (k r : ℕ) (ts : List NetTerm) → net_sum q 0 (map plain_term ts) (of_now q z k r) (of_old net q z k r) (of_input net q u k r) ≡ terms_value net.rows q u z k r ts
+sum_is net q u z k r [] = refl
+sum_is net q u z k r (t ∷ ts) = ap₂ (λ x y. x +ℤ y) (ap₂ (λ x y. x *ℤ y) (over-plain q t.coef) (value_is net q u z k r t.from)) (sum_is net q u z k r ts)
 
 pub runs_are_sums : (f : Form) → FormFits f → RunsAreSums f
-unfolding put_rows
 runs_are_sums f fits q u z run k r h =
-    let n : ℕ = rows f.sizes in
+    let net : Net = net_alone f in
     let ts = plains f.sizes f.entries r in
     let first : 0 + r ≡ r = omega arith in
     run.row k r (rw (rows_alone f) h)
     ∙ omega (arith, ints)
-    ∙ from_table (net_alone f) q u z k r ts (once f.sizes r f.entries fits.entries fits.once) (λ j. now_has f r j h) (λ j. old_has f r j h) (λ j. input_has f r j h)
-    ∙ ap (λ m. total m (λ j. taken (reads_now 0 j) q ts *ℤ of_now q z k r j) +ℤ total n (λ j. taken (reads_old 0 j) q ts *ℤ of_old n q z k r j) +ℤ total input_count (λ j. taken (reads_input j) q ts *ℤ of_input n q u k r j)) (sym first)
-    ∙ sym (sum_by_source q n 0 r ts (of_now q z k r) (of_old n q z k r) (of_input n q u k r) (all_fit f.sizes r f.entries fits.inputs_high fits.entries))
-    ∙ sum_is n q u z k r (net_row f.sizes f.entries r)
+    ∙ ap (row_sum net q u z k) (sym first)
+    ∙ as_terms net 0 q r ts u z k (has_terms f r fits h)
+    ∙ ap (λ i. net_sum q 0 ts (of_now q z k i) (of_old net q z k i) (of_input net q u k i)) first
+    ∙ sum_is net q u z k r (net_row f.sizes f.entries r)
+    ∙ ap (λ n. terms_value n q u z k r (net_row f.sizes f.entries r)) (rows_alone f)
 
 -- ---- denominators
 
-zero_whole : (q : ℕ) → IsWholeOver q zero_fraction
-zero_whole q = omega arith
-
--- the coefficient of each source that n rows give row r
-record WholeAt (n r q : ℕ) (ts : List NetTerm) : Type 0 where
-  now : (j : ℕ) → j < r → IsWholeOver q (coefficient (reads_now 0 j) ts)
-  old : (j : ℕ) → j < n → IsWholeOver q (coefficient (reads_old 0 j) ts)
-  input : (j : ℕ) → j < input_count → IsWholeOver q (coefficient (reads_input j) ts)
-
-whole_first : (n r q : ℕ) (t : NetTerm) (ts : List NetTerm) → AreOnce (t ∷ ts) → WholeAt n r q (t ∷ ts) → (from : NetRead) → t.from ≡ from → ReadFits n 0 r from → IsWholeOver q t.coef
-whole_first n r q t ts once whole (Now s) e fit = whole_here (reads_now 0 s) (now_picks 0 s) q t ts once (rw e (eq-eqb s (0 + s) (omega arith))) (whole.now s fit)
-whole_first n r q t ts once whole (Old s) e fit = whole_here (reads_old 0 s) (old_picks 0 s) q t ts once (rw e (eq-eqb s (0 + s) (omega arith))) (whole.old s (omega arith))
-whole_first n r q t ts once whole (In s) e fit = whole_here (reads_input s) (input_picks s) q t ts once (rw e (eq-eqb s s refl)) (whole.input s fit)
-
-all_whole : (n r q : ℕ) (ts : List NetTerm) → AreOnce ts → AllFit n 0 r ts → WholeAt n r q ts → All (λ (t : NetTerm). IsWholeOver q t.coef) ts
-all_whole n r q [] apart fits whole = All-nil (λ (t : NetTerm). IsWholeOver q t.coef)
-all_whole n r q (t ∷ ts) apart fits whole =
-    All-cons (λ (t : NetTerm). IsWholeOver q t.coef) t ts
-    (whole_first n r q t ts apart whole t.from refl fits.0)
-    (all_whole n r q ts apart.2 fits.1 (record {
-      now = λ j l. whole_rest (reads_now 0 j) (now_picks 0 j) q t ts apart (zero_whole q) (whole.now j l);
-      old = λ j l. whole_rest (reads_old 0 j) (old_picks 0 j) q t ts apart (zero_whole q) (whole.old j l);
-      input = λ j l. whole_rest (reads_input j) (input_picks j) q t ts apart (zero_whole q) (whole.input j l);
-    }))
-
-as_given : (q : ℕ) (ts : List NetTerm) → All (λ (t : NetTerm). IsWholeOver q t.coef) (map plain_term ts) → All (λ (t : NetTerm). IsWholeOver q (plain t.coef)) ts
+as_given : (q : ℕ) (ts : List NetTerm) → AllWhole q (map plain_term ts) → All (λ (t : NetTerm). IsWholeOver q (plain t.coef)) ts
 as_given q [] whole = All-nil (λ (t : NetTerm). IsWholeOver q (plain t.coef))
-as_given q (t ∷ ts) whole =
-    All-cons (λ (t : NetTerm). IsWholeOver q (plain t.coef)) t ts
-    (All-head (λ (t : NetTerm). IsWholeOver q t.coef) (plain_term t) (map plain_term ts) whole)
-    (as_given q ts (All-tail (λ (t : NetTerm). IsWholeOver q t.coef) (plain_term t) (map plain_term ts) whole))
+as_given q (t ∷ ts) whole = All-cons (λ (t : NetTerm). IsWholeOver q (plain t.coef)) t ts whole.0 (as_given q ts whole.1)
 
 pub denominators_divide : (f : Form) → FormFits f → DenominatorsDivide f
-denominators_divide f fits q den r h =
-    let inside : r < (net_alone f).rows = rw (rows_alone f) h in
-    as_given q (net_row f.sizes f.entries r)
-    (all_whole (rows f.sizes) r q (plains f.sizes f.entries r) (once f.sizes r f.entries fits.entries fits.once) (all_fit f.sizes r f.entries fits.inputs_high fits.entries) (record {
-      now = λ j l. subst (IsWholeOver q) (now_has f r j h) (den.now r j inside l);
-      old = λ j l. subst (IsWholeOver q) (old_has f r j h) (den.old r j inside (rw (rows_alone f) l));
-      input = λ j l. subst (IsWholeOver q) (input_has f r j h) (den.input r j inside l);
-    }))
+denominators_divide f fits q den r h = as_given q (net_row f.sizes f.entries r) (whole_terms (net_alone f) 0 q r (plains f.sizes f.entries r) den (has_terms f r fits h))

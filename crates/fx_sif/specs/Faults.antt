@@ -1,7 +1,8 @@
 -- The first fault of an implicit form, and the fault that an answer tells.
-use Rattle.std.specs.Prelude.{ℕ, pos, nat_lt, nat_le, int_lt, unsigned_abs, ◌==◌, Bool, true, false, not, ◌&&◌, ◌||◌, List, [], ◌∷◌, ◌++◌, length, Option, Some, None, Result, Ok, Err}
+use Rattle.std.specs.Prelude.{ℕ, pos, nat_lt, nat_le, int_lt, unsigned_abs, ◌==◌, Bool, false, not, ◌&&◌, ◌||◌, List, [], ◌∷◌, ◌++◌, length, Option, Some, None, Result, Ok, Err}
 use Rattle.std.specs.Option.{option_or}
 use Rattle.std.specs.List.{list_any}
+use Rattle.fx_math.specs.Faults.{fault_if}
 use Rattle.fx_nums.specs.Fraction.{Fraction, den_value}
 use Rattle.fx_sif.specs.Blocks.{height, width, same_place}
 use Rattle.fx_sif.specs.Form.{rows}
@@ -11,11 +12,6 @@ use Rattle.fx_sif.specs.declared.parts.Entry.{Entry}
 use Rattle.fx_sif.specs.declared.parts.Sizes.{Sizes}
 use Rattle.fx_sif.specs.declared.fault.SifFault.{SifFault}
 use Rattle.fx_sif.specs.declared.fault.SifFault.TheVariants.{Shape, NotUnitLower, Twice, Limit, NoMemory}
-
--- this fault where a test holds, else the first of the rest
-abbrev pub fault_if : Bool → SifFault → Option SifFault → Option SifFault
-fault_if true fault rest = Some fault
-fault_if false fault rest = rest
 
 -- ---- the counts
 

@@ -1,7 +1,7 @@
 -- What every implicit form keeps.
-use Rattle.std.specs.Prelude.{◌≡◌, ℕ, pos, ◌<◌, ◌≤◌, ⊤, All}
+use Rattle.std.specs.Prelude.{◌≡◌, ℕ, pos, ◌<◌, ◌≤◌, ⊤, List, All}
 use Rattle.std.specs.List.{IsDistinct}
-use Rattle.fx_nums.specs.Fraction.{Fraction, den_value}
+use Rattle.fx_nums.specs.Fraction.{Fraction, DenFits, den_value}
 use Rattle.fx_sif.specs.Blocks.{height, width, same_place}
 use Rattle.fx_sif.specs.Form.{Form, rows}
 use Rattle.fx_sif.specs.declared.parts.Block.{Block}
@@ -34,3 +34,7 @@ pub record FormFits (f : Form) : Type 0 where
   pub outputs_high : f.sizes.y ≤ 4
   pub entries : All (EntryFits f.sizes) f.entries
   pub once : IsDistinct (λ (e g : Entry). same_place g e) f.entries
+
+-- each coefficient has a denominator that a fraction may have
+abbrev pub CoefficientsFit : List Entry → Type 0
+CoefficientsFit entries = All (λ e. DenFits e.coef.den) entries

@@ -20,7 +20,7 @@ abbrev pub terms_value : ℕ → ℕ → (ℕ → ℕ → ℤ) → (ℕ → ℕ 
 terms_value n q u z k r [] = pos 0
 terms_value n q u z k r (t ∷ ts) = over q t.coef *ℤ read_value n q u z k r t.from +ℤ terms_value n q u z k r ts
 
--- in each run without kicks, each row is the sum of its terms at each moment
+-- in each run without perturbation, each row is the sum of its terms at each moment
 abbrev pub RunsAreSums : Form → Type 0
 RunsAreSums f =
     (q : ℕ) (u z : ℕ → ℕ → ℤ) → IsRun (net_alone f) q u z (λ k i. pos 0) →

@@ -26,7 +26,7 @@ IsSameOutput f eqs q g u z k o =
     let i = equations_output eqs o in
     z k (form_output f o) *ℤ pos (g ^ (k * eqs.rows + i + 1)) ≡ exact_value eqs g u k i *ℤ pos (q ^ (row_time (net_alone f) k (form_output f o) + 1))
 
--- as many inputs and outputs, and the same outputs in each run without kicks, whatever the inputs
+-- as many inputs and outputs, and the same outputs in each run without perturbation, whatever the inputs
 pub record HasOutputs (f : Form) (eqs : Equations) : Type 0 where
   pub inputs : f.sizes.u ≡ eqs.inputs
   pub outputs : f.sizes.y ≡ length eqs.outputs

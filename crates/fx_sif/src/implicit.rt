@@ -1,22 +1,26 @@
 ghost use Rattle.std.specs.Prelude.{◌≡◌, ◌+◌, ◌<◌, ◌≤◌, ◌^◌, length, IfOk};
 ghost use Rattle.fx_net.specs.Rows.{AreEmpty, put_rows};
+ghost use Rattle.fx_net.specs.Run.{IsDenominator};
+ghost use Rattle.fx_net.specs.Running.{widest};
 ghost use Rattle.fx_net.specs.Tables.{net_of};
 ghost use Rattle.fx_sif.specs.Faults.{fault_told, sif_fault};
-ghost use Rattle.fx_sif.specs.Fits.{FormFits};
+ghost use Rattle.fx_sif.specs.Fits.{CoefficientsFit, FormFits};
 ghost use Rattle.fx_sif.specs.Form.{Form, entry_of, given_or, not_given, rows};
 ghost use Rattle.fx_sif.specs.Rows.{rows_of};
+ghost use Rattle.fx_sif.specs.SameOutputs.{net_alone};
 
 use crate::checks::{is_at, sif_fault};
 use crate::fault::SifFault;
 use crate::parts::{Block, Entry, Sizes};
 use crate::rows::put_entries;
 use fx_net::Net;
-use fx_nums::{Den, Frac};
+use fx_nums::Frac;
 use std::alloc::{AllocError, Global};
 use std::marker::Model;
 
-/// A filter in the specialised implicit form. J is lower triangular with ones on its diagonal, so the intermediate
-/// variables are computed one after the other. Each form keeps the limits that its making tests.
+/// A filter in the Specialized Implicit Form (SIF), by Hilaire, Chevrel and Whidborne. J is lower triangular with ones on
+/// its diagonal, so the intermediate variables are computed one after the other. Each form keeps the limits that its making
+/// tests.
 #[derive(Drop)]
 pub struct Sif {
     sizes: Sizes,
@@ -40,8 +44,11 @@ impl Model for Sif {
 fn not_given(sizes: Sizes, block: Block, i: usize, j: usize) -> Frac
     ensures { result ≡ not_given sizes block i j }
 {
-    let is_one = block == Block::J && i == j && i < usize::from(sizes.t);
-    Frac::new(i64::from(is_one), Den::Ten(0)).unwrap()
+    if block == Block::J && i == j && i < usize::from(sizes.t) {
+        Frac::one()
+    } else {
+        Frac::zero()
+    }
 }
 
 // The coefficient of the first entry in a place; the one that is passed where there is none.
@@ -120,7 +127,7 @@ impl Sif {
         put_entries(self.sizes, &self.entries, net, at);
     }
 
-    /// An equal form.
+    /// An equal form. Its error is want of memory.
     pub fn copy(&self, alloc: Global) -> Result<Sif, AllocError>
         ensures { IfOk result (λ s. s ≡ self.now) }
     {
@@ -136,4 +143,21 @@ pub fn forms_fit(form: &Sif)
     ensures { FormFits form.now }
 {
     let _ = &form.sizes;
+}
+
+// A law that only reads: each coefficient has a denominator that a fraction may have.
+fn coefficients_fit(entries: &[Entry])
+    ensures { CoefficientsFit entries.now }
+{
+    for entry in entries {
+        let _ = entry.coef.num();
+    }
+}
+
+/// A law that only reads: 2^62 * 10^28 is a denominator of each form's net alone, since each coefficient is a fraction
+/// over a power of two up to 2^62 or of ten up to 10^28.
+pub fn forms_have_a_denominator(form: &Sif)
+    ensures { IsDenominator (net_alone form.now) widest }
+{
+    coefficients_fit(&form.entries);
 }

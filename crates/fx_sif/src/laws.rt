@@ -25,7 +25,7 @@ pub fn nets_have_the_blocks(form: &Sif)
     forms_fit(form);
 }
 
-/// A law with nothing to run: in each run of a form alone without kicks, each row is the sum of its terms.
+/// A law with nothing to run: in each run of a form alone without perturbation, each row is the sum of its terms.
 #[tactic(auto, using(crate::proofs::Summing::runs_are_sums))]
 pub fn runs_are_sums(form: &Sif)
     ensures { RunsAreSums form.now }

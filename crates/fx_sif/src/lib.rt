@@ -1,4 +1,5 @@
-//! Filters in the specialised implicit form: intermediate variables, states and outputs, each a row of a matrix.
+//! Filters in the Specialized Implicit Form (SIF), by Hilaire, Chevrel and Whidborne: intermediate variables, states and
+//! outputs, each a row of a matrix.
 #![tactic(auto)]
 
 mod checks;
@@ -11,7 +12,7 @@ mod rows;
 mod tests;
 
 pub use fault::SifFault;
-pub use implicit::{Sif, forms_fit};
+pub use implicit::{Sif, forms_fit, forms_have_a_denominator};
 pub use laws::{
     denominators_divide, j_is_unit_lower, nets_have_the_blocks, runs_are_sums,
     what_fits_has_no_fault,

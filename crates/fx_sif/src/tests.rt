@@ -56,7 +56,6 @@ fn a_form_is_read_back(rt: HostRuntime) -> Result<(), Fail> {
 }
 
 #[test]
-#[tactic(auto, using(crate::proofs::Placing::empty_rows))]
 fn a_transposed_form_in_a_net(rt: HostRuntime) -> Result<(), Fail> {
     let entries = half_of_the_last();
     let form = Sif::build(rt.alloc(), sizes(1, 1, 1, 1), &entries)?;

@@ -6,7 +6,8 @@ use Rattle.std.proofs.lemmas.List.{take_more_set}
 use Rattle.csv.specs.Records.{field_at}
 use Rattle.fx_sim.specs.declared.fault.SampleFault.{SampleFault}
 use Rattle.fx_sim.specs.declared.fault.SampleFault.TheVariants.{Columns, Field, OutOfWord, NoMemory}
-use Rattle.fx_sim.specs.Samples.{◌>>=◌, Fails, word_in, words_in}
+use Rattle.fx_math.specs.Faults.{◌>>=◌}
+use Rattle.fx_sim.specs.Samples.{Fails, word_in, words_in}
 
 abbrev pub with_front : {A : Type 0} → List A → Result (List A) SampleFault → Result (List A) SampleFault
 with_front front (Ok xs) = Ok (front ++ xs)

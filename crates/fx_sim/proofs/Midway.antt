@@ -9,7 +9,8 @@ use Rattle.fx_code.specs.Moments.{State, StandsAfter, outputs_at}
 use Rattle.fx_sim.specs.declared.fault.SampleFault.{SampleFault}
 use Rattle.fx_sim.specs.Output.{line_of, lines_before, run_text}
 use Rattle.fx_sim.specs.Remaining.{TextReader, Stands, records_left}
-use Rattle.fx_sim.specs.Samples.{◌>>=◌, Fails, moment_in, moments_in, samples_in}
+use Rattle.fx_math.specs.Faults.{◌>>=◌}
+use Rattle.fx_sim.specs.Samples.{Fails, moment_in, moments_in, samples_in}
 use Rattle.fx_sim.specs.Simulation.{simulation}
 use Rattle.fx_sim.proofs.Earlier.{text_goes_on}
 use Rattle.fx_sim.proofs.Fronts.{with_front, fails_behind, fails_through, regroup}

@@ -11,7 +11,8 @@ use Rattle.fx_sim.specs.declared.fault.SampleFault.{SampleFault}
 use Rattle.fx_sim.specs.declared.fault.SampleFault.TheVariants.{Columns, Field, OutOfWord}
 use Rattle.fx_sim.specs.Fields.{IsField, field_value}
 use Rattle.fx_sim.specs.Laws.{IsRecordOf, SamplesLaw}
-use Rattle.fx_sim.specs.Samples.{◌>>=◌, is_word, moment_in, moments_in, or_fault, word_in, words_in}
+use Rattle.fx_math.specs.Faults.{◌>>=◌, or_fault}
+use Rattle.fx_sim.specs.Samples.{is_word, moment_in, moments_in, word_in, words_in}
 use Rattle.fx_sim.proofs.FieldLaws.{field_is, field_read}
 
 -- ---- steps

@@ -1,20 +1,11 @@
 -- The numbers of samples, moment by moment, or their first fault.
-use Rattle.std.specs.Prelude.{◌≡◌, ℕ, ℤ, pos, neg_ℤ, ◌+◌, ◌-◌, ◌^◌, ◌==◌, ◌&&◌, Bool, List, [], ◌∷◌, length, Option, Some, None, Result, Ok, Err, if◌then◌else◌}
+use Rattle.std.specs.Prelude.{◌≡◌, ℕ, ℤ, pos, neg_ℤ, ◌+◌, ◌-◌, ◌^◌, ◌==◌, ◌&&◌, Bool, List, [], ◌∷◌, length, Result, Ok, Err, if◌then◌else◌}
 use Rattle.std.specs.Int.Signed.{le_z, lt_z}
 use Rattle.csv.specs.Reading.{default_config, records, strip_bom}
+use Rattle.fx_math.specs.Faults.{or_fault, ◌>>=◌}
 use Rattle.fx_sim.specs.Fields.{field_value}
 use Rattle.fx_sim.specs.declared.fault.SampleFault.{SampleFault}
 use Rattle.fx_sim.specs.declared.fault.SampleFault.TheVariants.{Columns, Field, OutOfWord, NoMemory}
-
--- a value, or the first fault of the steps
-infixl 10 ◌>>=◌
-abbrev pub ◌>>=◌ : {A B : Type 0} → Result A SampleFault → (A → Result B SampleFault) → Result B SampleFault
-(Ok x) >>= f = f x
-(Err e) >>= f = Err e
-
-abbrev pub or_fault : {A : Type 0} → SampleFault → Option A → Result A SampleFault
-or_fault fault (Some x) = Ok x
-or_fault fault None = Err fault
 
 -- an answer that names this fault is right: it is the first, or memory was refused
 abbrev pub Fails : {Y : Type 0} → SampleFault → Result Y SampleFault → Type 0

@@ -3,7 +3,8 @@ use Rattle.std.specs.Prelude.{ℕ, List, Result, Ok}
 use Rattle.fx_code.specs.Code.{Code}
 use Rattle.fx_sim.specs.declared.fault.SampleFault.{SampleFault}
 use Rattle.fx_sim.specs.Output.{run_text}
-use Rattle.fx_sim.specs.Samples.{◌>>=◌, samples_in}
+use Rattle.fx_math.specs.Faults.{◌>>=◌}
+use Rattle.fx_sim.specs.Samples.{samples_in}
 
 -- the text of a program's run on the words of samples, or the first fault of the samples
 abbrev pub simulation : Code → List ℕ → Result (List ℕ) SampleFault

@@ -16,7 +16,8 @@ use Rattle.fx_nums.proofs.WholeLaws.{stands_there, whole_in-decimal}
 use Rattle.fx_text.specs.declared.fault.CodeFault.{CodeFault}
 use Rattle.fx_text.specs.Tokens.{is_letter, is_digit, begins, is_name, Lexeme, name, number, sign, HasLexemes}
 use Rattle.fx_text.specs.Grammar.{next_number}
-use Rattle.fx_text.specs.TokenReading.{after_step, or_fault, front_len, number_at, ranged_at, next_at, writes_digit, index_at, alone, then_alone, name_number, is_some_of, due_at}
+use Rattle.fx_math.specs.Faults.{or_fault}
+use Rattle.fx_text.specs.TokenReading.{after_step, front_len, number_at, ranged_at, next_at, writes_digit, index_at, alone, then_alone, name_number, is_some_of, due_at}
 use Rattle.fx_text.proofs.Bytes.{decimal_digits, digits_words}
 use Rattle.fx_text.proofs.TokenLaws.{Sound, sound_bind, sound_ok, sound_err, sound_if, After, after_bind, Back, token_sound, number_digits, word_back, number_back, expect_sound, expect_again, fixed_again, number_token}
 

@@ -16,7 +16,8 @@ use Rattle.fx_text.specs.declared.fault.CodeFault.TheVariants.{Unexpected, Name,
 use Rattle.fx_text.specs.declared.parts.Head.{Head}
 use Rattle.fx_text.specs.declared.term.Place.{Place}
 use Rattle.fx_text.specs.Tokens.{is_letter, begins}
-use Rattle.fx_text.specs.TokenReading.{◌>>=◌, or_fault, repeated, is_nothing, token_at, expect_at, pair_at, first_line_at, number_at, next_at, index_at, name_number, due_at}
+use Rattle.fx_math.specs.Faults.{or_fault}
+use Rattle.fx_text.specs.TokenReading.{◌>>=◌, repeated, is_nothing, token_at, expect_at, pair_at, first_line_at, number_at, next_at, index_at, name_number, due_at}
 
 -- ---- the head
 

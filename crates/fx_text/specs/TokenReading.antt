@@ -3,6 +3,7 @@ use Rattle.std.specs.Prelude.{◌≡◌, ℕ, zero, suc, ◌+◌, ◌^◌, ◌==
 use Rattle.std.specs.List.{starts_with}
 use Rattle.std.specs.Prelude.{nat_eq}
 use Rattle.std.specs.Str.{bytes_eq}
+use Rattle.fx_math.specs.Faults.{or_fault}
 use Rattle.fx_code.specs.Limits.{is_outside}
 use Rattle.fx_code.specs.declared.fault.LimitOf.{LimitOf}
 use Rattle.fx_nums.specs.Whole.{whole_in}
@@ -30,10 +31,6 @@ Fails f read = read ≡ Err f
 abbrev pub Gives : {X Y : Type 0} → (X → Y) → Result X CodeFault → Result Y CodeFault → Type 0
 Gives view (Ok x) read = read ≡ Ok (view x)
 Gives view (Err e) read = Fails e read
-
-abbrev pub or_fault : {A : Type 0} → CodeFault → Option A → Result A CodeFault
-or_fault fault (Some x) = Ok x
-or_fault fault None = Err fault
 
 -- a step, this many times
 abbrev pub repeated : {S : Type 0} → ℕ → (S → Result S CodeFault) → S → Result S CodeFault

@@ -7,7 +7,7 @@ ghost use Rattle.fx_eqs.specs.declared.term.Source.TheVariants.{Row, In};
 ghost use Rattle.fx_textbook.specs.Shapes.{SpaceFits};
 
 use fx_eqs::{Source, Term};
-use fx_nums::{Den, Frac};
+use fx_nums::Frac;
 use std::alloc::{AllocError, Global};
 
 // One more term.
@@ -234,16 +234,6 @@ fn backward(order: usize, i: usize) -> Source
     }
 }
 
-// The number 1.
-fn one() -> Frac
-    ensures { result ≡ one }
-{
-    match Frac::new(1, Den::Ten(0)) {
-        Some(fraction) => fraction,
-        None => unreachable!(),
-    }
-}
-
 // The rows that go forward, the last of these reflections first.
 fn forward_rows(
     terms: &mut Vec<Term>,
@@ -259,7 +249,7 @@ fn forward_rows(
         [first, rest @ ..] => {
             forward_rows(terms, order, i + 1, rest)?;
             let row = (order - 1 - i) as u8;
-            add(terms, row, one(), forward(order, i + 1), 0)?;
+            add(terms, row, Frac::one(), forward(order, i + 1), 0)?;
             add(terms, row, first.neg(), backward(order, i), 1)
         }
     }
@@ -280,7 +270,7 @@ fn backward_rows(
         [first, rest @ ..] => {
             let row = (order + i) as u8;
             add(terms, row, *first, forward(order, i), 0)?;
-            add(terms, row, one(), backward(order, i), 1)?;
+            add(terms, row, Frac::one(), backward(order, i), 1)?;
             backward_rows(terms, order, i + 1, rest)
         }
     }

@@ -4,7 +4,7 @@ use Rattle.std.specs.FinMap.{get}
 use Rattle.fx_io.specs.Shelf.{Files}
 use Rattle.fx_files.specs.Reading.{filter_of_bytes}
 use Rattle.fx_files.specs.Specification.{Specification}
-use Rattle.fx_files.specs.declared.fault.FilterFault.{FilterFault}
+use Rattle.fx_keys.specs.declared.fault.FilterFault.{FilterFault}
 use Rattle.fx_text.specs.Reading as general
 use Rattle.fx_text.specs.declared.fault.CodeFault.{CodeFault}
 use Rattle.fx_sim.specs.Simulation.{simulation}
@@ -30,6 +30,7 @@ use Rattle.fx_tool.specs.declared.status.Status.TheVariants.{Done, TooLong, NotB
 use Rattle.fx_code.specs.Fits.{CodeFits}
 use Rattle.fx_text.specs.Grammar.{Spells}
 use Rattle.fx_tool.specs.Claim.{certificate_with}
+use Rattle.fx_text.proofs.CodeLaws as general_laws
 use Rattle.fx_tool.proofs.ClaimLaws.{certificate_law, two_items, one_item, with_items}
 use Rattle.fx_tool.proofs.ConstantSound.{sound}
 use Rattle.fx_tool.proofs.CodeLaws.{code_law, have_bits}
@@ -195,7 +196,7 @@ simulate_done files code samples before after h grows =
     record {
       program = p;
       text = t;
-      read = there (get files code) file.bytes (λ bytes. general.code_in bytes ≡ Ok p) file.there read;
+      spells = there (get files code) file.bytes (λ bytes. Spells bytes p) file.there ((general_laws.code_law file.bytes p).0 read);
       runs = there (get files samples) moments.bytes (λ bytes. simulation p bytes ≡ Ok t) moments.there runs;
       printed = subst (λ (t : List ℕ). GrowsBy t before after) (ap (λ (a : Answer). a.text) (file.same ∙ second ∙ moments.same) ∙ text) grows;
     }

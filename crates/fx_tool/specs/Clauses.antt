@@ -26,8 +26,8 @@ abbrev pub WhereTold : Option Files → (Files → Type 0) → Type 0
 WhereTold None P = ⊤
 WhereTold (Some files) P = P files
 
--- The status is the answer's, or a read, a write or memory failed. With the answer's status its whole text was put, after a
--- failed read nothing, and else the first bytes of the text.
+-- The status is the answer's, or a read, a write or memory failed. With the answer's status its whole text was put, and
+-- else the first bytes of the text.
 pub record Gives (answer : Answer) (status : Status) (before after : Option (List ℕ)) : Type 0 where
   pub which : (status ≡ answer.status) ⊎ ((status ≡ ReadFault) ⊎ ((status ≡ WriteFault) ⊎ (status ≡ NoMemory)))
   pub whole : status ≡ answer.status → GrowsBy answer.text before after
@@ -43,7 +43,7 @@ abbrev pub PlacesAnswer : List (List ℕ) → Option Files → Option Files → 
 PlacesAnswer words before after status =
     WhereTold before (λ files. status ≡ (answer_of words files).status → after ≡ Some (with_placed (answer_of words files).placed files))
 
--- the most calls on the shelf: those of the reads of the operands, and none where the words are no command
+-- the most calls on the shelf: those of the reads of the operands
 abbrev pub check_calls : Option Files → Operands → ℕ
 check_calls told o = read_calls 4096 told o.filter + (read_calls 4096 told o.code + read_calls 4096 told o.cert)
 
@@ -62,6 +62,7 @@ calls_of told (Check o) = check_calls told o
 calls_of told (Show filter) = read_calls file_limit told filter
 calls_of told (Simulate code samples) = read_calls file_limit told code + samples_calls told code samples
 
+-- none where the words are no command
 abbrev pub command_calls : Option Files → Option Command → ℕ
 command_calls told None = 0
 command_calls told (Some c) = calls_of told c
@@ -85,11 +86,11 @@ pub record Shows (files : Files) (name : List ℕ) (before after : Option (List 
   pub read : IsSomeAnd (get files name) (λ bytes. filter_of_bytes bytes ≡ Ok filter)
   pub printed : GrowsBy (filter_lines filter) before after
 
--- The files are read as a program and as samples of its inputs, and its outputs on them were put.
+-- One file spells a program, the other has samples of its inputs, and its outputs on them were put.
 pub record Simulates (files : Files) (code samples : List ℕ) (before after : Option (List ℕ)) : Type 0 where
   pub program : Code
   pub text : List ℕ
-  pub read : IsSomeAnd (get files code) (λ bytes. general.code_in bytes ≡ Ok program)
+  pub spells : IsSomeAnd (get files code) (λ bytes. Spells bytes program)
   pub runs : IsSomeAnd (get files samples) (λ bytes. simulation program bytes ≡ Ok text)
   pub printed : GrowsBy text before after
 

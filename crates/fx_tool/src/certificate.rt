@@ -11,9 +11,9 @@ use crate::text::numbered_at;
 pub struct Claim {
     /// The length of a block of moments, 1 to 4096.
     pub length: u16,
-    /// The bound of the code's row, below 2^31.
+    /// The bound of the code's row in output steps, below 2^31.
     pub code_bound: u32,
-    /// The bound of the filter's row, below 2^31.
+    /// The bound of the filter's row in input steps, below 2^31.
     pub filter_bound: u32,
     /// The error of the output in units of 2^-64 output steps, below 2^96.
     pub error: u128,

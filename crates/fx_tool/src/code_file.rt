@@ -105,7 +105,7 @@ pub fn read_code_file(alloc: Global, bytes: &[u8]) -> Result<Option<Program>, Al
 }
 
 /// The program that is read from bytes is the one whose text they are.
-pub fn code_is_read_exactly()
+pub fn constant_code_is_read_exactly()
     ensures { CodeLaw }
 {
     fx_text::code_is_read_exactly();

@@ -23,7 +23,7 @@ mod words;
 mod writing;
 
 pub use certificate::{Claim, certificate_is_read_exactly, read_certificate};
-pub use code_file::{code_is_read_exactly, read_code_file};
+pub use code_file::{constant_code_is_read_exactly, read_code_file};
 pub use command::run;
 pub use constant::ConstantFilter;
 pub use filter_file::{filter_is_read_exactly, read_filter_file};

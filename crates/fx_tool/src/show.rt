@@ -1,6 +1,6 @@
 ghost use Rattle.std.specs.Prelude.{◌≡◌, ◌≢◌, IfOk, IsTrue};
 ghost use Rattle.fx_files.specs.Reading.{filter_of_bytes};
-ghost use Rattle.fx_files.specs.declared.fault.FilterFault.TheVariants.{NoMemory};
+ghost use Rattle.fx_keys.specs.declared.fault.FilterFault.TheVariants.{NoMemory};
 ghost use Rattle.fx_lines.specs.FilterFault.{filter_fault_line};
 ghost use Rattle.fx_tool.specs.Answer.{file_limit, says, show_answer, shown};
 ghost use Rattle.fx_tool.specs.Clauses.{WhereTold};

@@ -6,7 +6,7 @@ ghost use Rattle.fx_tool.specs.Status.{number_of};
 pub enum Status {
     /// The command's work is done.
     Done,
-    /// The three files read, and an inequality fails.
+    /// The three files were read, and an inequality fails.
     Refused,
     /// The words are no command. No run ends so while commands are still to be built: such words are `NotBuiltYet`.
     Usage,

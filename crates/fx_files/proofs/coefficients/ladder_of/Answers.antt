@@ -1,6 +1,6 @@
 use Rattle.std.proofs.Common.{[]}
 use Rattle.std.proofs.lemmas.List.Elements.{All-nil}
-use Rattle.fx_files.specs.Fits.{OverTen}
+use Rattle.fx_keys.specs.Fits.{OverTen}
 use Rattle.fx_files.proofs.Joined.{together}
 use Rattle.fx_files.proofs.coefficients.ladder_of.Goals as goal
 

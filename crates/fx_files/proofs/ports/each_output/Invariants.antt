@@ -2,7 +2,7 @@ use Rattle.std.proofs.Common.{◌≡◌, drop, length, All}
 use Rattle.toml.specs.View.{items_view}
 use Rattle.fx_files.specs.Fits.{EntryFits}
 use Rattle.fx_files.specs.Ports.{each_output}
-use Rattle.fx_files.proofs.Front.{with_front}
+use Rattle.fx_keys.proofs.Front.{with_front}
 use Rattle.fx_files.proofs.ports.each_output.Given as goal
 
 abbrev pub invariant-loop-entry : goal.invariant-loop-entry

@@ -1,8 +1,7 @@
-use Rattle.std.proofs.Common.{◌≡◌, ◌≤◌, ◌∷◌, [], ◌∙◌, ap, length, take, ℕ, pos, arith}
-use Rattle.std.proofs.lemmas.List.{length-take}
+use Rattle.std.proofs.Common.{arith}
 use Rattle.std.proofs.lemmas.Result.{err_from_is_err_and}
 use Rattle.csv.specs.Records.{fields_of}
-use Rattle.fx_sim.proofs.Midway.{begins, goes_on, fails, done}
+use Rattle.fx_sim.proofs.Midway.{goes_on, fails, done}
 use Rattle.fx_sim.proofs.simulation.simulate.Goals as goal
 
 pub returns-in_err-read_moment : goal.returns-in_err-read_moment

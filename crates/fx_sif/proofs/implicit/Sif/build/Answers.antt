@@ -1,10 +1,10 @@
 use Rattle.std.proofs.Common.{◌∙◌, sym}
-use Rattle.fx_sif.proofs.FirstFault.{fault-told}
+use Rattle.fx_sif.proofs.FirstFault.{fault_told}
 use Rattle.fx_sif.proofs.Kept.{form_fits}
 use Rattle.fx_sif.proofs.implicit.Sif.build.Goals as goal
 
 pub returns-in-Some-clause-fault : goal.returns-in-Some-clause-fault
-returns-in-Some-clause-fault c = fault-told c.args.sizes c.args.entries.now _ (sym c.sif_fault.ensures ∙ c.in-Some.is)
+returns-in-Some-clause-fault c = fault_told c.args.sizes c.args.entries.now _ (sym c.sif_fault.ensures ∙ c.in-Some.is)
 
 pub invariant_of-result : goal.invariant_of-result
 invariant_of-result c =

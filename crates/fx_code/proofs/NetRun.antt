@@ -1,0 +1,188 @@
+-- In a net that holds a program, numbers that are floored as words are, and so words, are a perturbed run of its rows.
+use Rattle.std.proofs.Common.{◌≡◌, ℕ, zero, suc, ◌+◌, ◌-◌, ◌*◌, ◌^◌, ◌<◌, ◌≤◌, List, [], ◌∷◌, map, length, get_or, arith, refl, ap, ap₂, sym, ◌∙◌, subst, inl, inr, eqb, false}
+use Rattle.std.proofs.Math.IntN.{ℤ, pos, ◌+ℤ◌, ◌-ℤ◌, ◌*ℤ◌, neg_ℤ}
+use Rattle.std.specs.Prelude.{unsigned_abs}
+use Rattle.std.proofs.lemmas.Int.{ints, unsigned_abs-mul}
+use Rattle.std.proofs.lemmas.Bool.{cases_lt, ne_eqb}
+use Rattle.std.proofs.lemmas.List.{get_or-map, length-map}
+use Rattle.std.proofs.lemmas.Nat.{pow_pos}
+use Rattle.std.proofs.Math.Nat.{mul-le-mul_right, pow-succ', le_of_mul-le-mul_left}
+use Rattle.fx_math.specs.Division.{floor_div}
+use Rattle.fx_math.specs.Unroll.{fill, last, so_far}
+use Rattle.fx_math.proofs.Division.{floor_below, floor_above}
+use Rattle.fx_math.proofs.Ring.{mul-add, mul_comm, mul_assoc, mul-neg, add-mul, neg-mul}
+use Rattle.fx_nums.specs.Fraction.{over, IsWholeOver}
+use Rattle.fx_net.specs.Net.{Net}
+use Rattle.fx_net.specs.Rows.{reads_now, reads_old, reads_input, coefficient, row_of}
+use Rattle.fx_mat.specs.Entries.{zero_fraction}
+use Rattle.fx_net.specs.Run.{IsDenominator, before, row_time, row_sum}
+use Rattle.fx_net.proofs.Carried.{of_now, of_old, of_input, right, gather, one_power, powers_to}
+use Rattle.fx_net.proofs.Coefficients.{value_at, net_sum}
+use Rattle.fx_code.specs.Code.{Code, row_at, constant_of, weight, OldIsThere, IsWhole}
+use Rattle.fx_code.specs.Fits.{SourceFits, CodeFits}
+use Rattle.fx_code.specs.Laws.{ExactWords, HasNumbers, IsWithinHalves, IsFloored, FlooredRowsRun, WordsRun}
+use Rattle.fx_code.specs.NetRows.{net_read, net_row, rows_of, class_of, HoldsCode}
+use Rattle.fx_code.specs.Run.{word_read, terms_sum, whole_sum, word_step, words, sum_at}
+use Rattle.fx_code.specs.declared.term.CodeTerm.{CodeTerm}
+use Rattle.fx_code.specs.declared.term.Read.{Read}
+use Rattle.fx_code.specs.declared.term.Read.TheVariants.{Now, Old, In}
+use Rattle.fx_net.proofs.Terms.{HasTerms, as_terms, AllWhole, whole_terms}
+use Rattle.fx_code.proofs.NetTerms.{kept, kept_term, coefficient_kept, are_once, all_fit, kept_over}
+use Rattle.fx_code.proofs.Placing.{read_fits}
+
+-- ---- rounding
+
+-- 2 ^ r times the floor, against the sum
+rounding : (r : ℕ) (a : ℤ) → 2 * unsigned_abs (pos (2 ^ r) *ℤ floor_div (pos (constant_of r) +ℤ a) (2 ^ r) -ℤ a) ≤ class_of r * 2 ^ r
+rounding zero a =
+    let low = floor_below (pos 0 +ℤ a) 1 (omega arith) in
+    let high = floor_above (pos 0 +ℤ a) 1 (omega arith) in
+    omega (arith, ints)
+rounding (suc r) a =
+    let y : ℤ = floor_div (pos (2 ^ r) +ℤ a) (2 ^ suc r) in
+    let low = floor_below (pos (2 ^ r) +ℤ a) (2 ^ suc r) (pow_pos (suc r)) in
+    let high = floor_above (pos (2 ^ r) +ℤ a) (2 ^ suc r) (pow_pos (suc r)) in
+    let e : 2 ^ suc r ≡ 2 * 2 ^ r = pow-succ' 2 r in
+    let turned : pos (2 ^ suc r) *ℤ y ≡ y *ℤ pos (2 ^ suc r) = mul_comm (pos (2 ^ suc r)) y in
+    omega (arith, ints)
+
+-- z is y g, and d t is s g, with d y near s: so z is near t
+near : (d e g : ℕ) (z t y s : ℤ) → 0 < d → z ≡ y *ℤ pos g → pos d *ℤ t ≡ s *ℤ pos g → 2 * unsigned_abs (pos d *ℤ y -ℤ s) ≤ e * d →
+    2 * unsigned_abs (z -ℤ t) ≤ e * g
+near d e g z t y s h ez et b =
+    let one : pos d *ℤ (z -ℤ t) ≡ (pos d *ℤ y -ℤ s) *ℤ pos g =
+    mul-add (pos d) z (neg_ℤ t) ∙ ap₂ (λ a c. a +ℤ c) (ap (λ x. pos d *ℤ x) ez ∙ sym (mul_assoc (pos d) y (pos g))) (mul-neg (pos d) t ∙ ap neg_ℤ et ∙ sym (neg-mul s (pos g)))
+    ∙ sym (add-mul (pos d *ℤ y) (neg_ℤ s) (pos g)) in
+    let two : d * unsigned_abs (z -ℤ t) ≡ unsigned_abs (pos d *ℤ y -ℤ s) * g =
+    sym (unsigned_abs-mul (pos d) (z -ℤ t)) ∙ ap unsigned_abs one ∙ unsigned_abs-mul (pos d *ℤ y -ℤ s) (pos g) in
+    let three : 2 * unsigned_abs (pos d *ℤ y -ℤ s) * g ≤ e * d * g = mul-le-mul_right g b in
+    let four : d * (2 * unsigned_abs (z -ℤ t)) ≤ d * (e * g) = omega (arith, two, three) in
+    le_of_mul-le-mul_left four h
+
+-- ---- a term
+
+term_scaled : (q shift g : ℕ) (t : CodeTerm) (x w : ℤ) → IsWholeOver q (kept shift (weight t)) → pos q *ℤ x ≡ w *ℤ pos g →
+    pos (2 ^ shift) *ℤ (over q (kept shift (weight t)) *ℤ x) ≡ (weight t *ℤ w) *ℤ pos g
+term_scaled q shift g t x w whole e =
+    sym (mul_assoc (pos (2 ^ shift)) (over q (kept shift (weight t))) x) ∙ ap (λ y. y *ℤ x) (kept_over q shift (weight t) whole)
+    ∙ mul_assoc (weight t) (pos q) x ∙ ap (λ y. weight t *ℤ y) e ∙ sym (mul_assoc (weight t) w (pos g))
+
+module _ (p : Code) (net : Net) (at q : ℕ) (u y z : ℕ → ℕ → ℤ)
+    (fits : CodeFits p) (whole : IsWhole p) (holds : HoldsCode net at p) (den : IsDenominator net q) (has : HasNumbers p net at q y z) where
+  room : at + length p.rows ≤ net.rows
+  room = let inside = holds.rows.inside in let count = length-map p.rows net_row in omega arith
+
+  -- what reads a source of row i, over the row's denominator
+  value_is : (k i : ℕ) (from : Read) → i < length p.rows → SourceFits i (length p.inputs) from → OldIsThere (length p.rows) from →
+      pos q *ℤ value_at at (net_read from) (of_now q z k (at + i)) (of_old net q z k (at + i)) (of_input net q u k (at + i))
+      ≡ word_read (y k) (before y k) (u k) from *ℤ pos (q ^ (row_time net k (at + i) + 1))
+  value_is k i (Now j) row source there =
+      let b : ℕ = at + i - (at + j) - 1 in
+      right q (q ^ b) (q ^ b * q) (z k (at + j)) (omega arith)
+      ∙ ap (λ x. x *ℤ pos (q ^ b * q)) (has k j (omega arith))
+      ∙ gather (q ^ (row_time net k (at + j) + 1)) (q ^ b * q) (q ^ (row_time net k (at + i) + 1)) (y k j) (powers_to q (row_time net k (at + j) + 1) b (row_time net k (at + i) + 1) (omega arith))
+  value_is zero i (Old j) row source there = omega (arith, ints)
+  value_is (suc k) i (Old j) row source there =
+      let b : ℕ = net.rows + (at + i) - (at + j) - 1 in
+      right q (q ^ b) (q ^ b * q) (z k (at + j)) (omega arith)
+      ∙ ap (λ x. x *ℤ pos (q ^ b * q)) (has k j there)
+      ∙ gather (q ^ (row_time net k (at + j) + 1)) (q ^ b * q) (q ^ (row_time net (suc k) (at + i) + 1)) (y k j) (powers_to q (row_time net k (at + j) + 1) b (row_time net (suc k) (at + i) + 1) (let a = room in omega arith))
+  value_is k i (In j) row source there =
+      right q (q ^ row_time net k (at + i)) (q ^ (row_time net k (at + i) + 1)) (u k j) (let e = one_power q (row_time net k (at + i)) in omega arith)
+
+  -- so the sum of terms
+  sum_scaled : (k i shift : ℕ) (ts : List CodeTerm) → i < length p.rows →
+      ((n : ℕ) (d : CodeTerm) → n < length ts → SourceFits i (length p.inputs) (get_or ts n d).from) →
+      ((n : ℕ) (d : CodeTerm) → n < length ts → OldIsThere (length p.rows) (get_or ts n d).from) →
+      AllWhole q (map (kept_term shift) ts) →
+      pos (2 ^ shift) *ℤ net_sum q at (map (kept_term shift) ts) (of_now q z k (at + i)) (of_old net q z k (at + i)) (of_input net q u k (at + i))
+      ≡ terms_sum (y k) (before y k) (u k) ts *ℤ pos (q ^ (row_time net k (at + i) + 1))
+  sum_scaled k i shift [] row sources there wholes = omega (arith, ints)
+  sum_scaled k i shift (t ∷ ts) row sources there wholes =
+      let g : ℕ = q ^ (row_time net k (at + i) + 1) in
+      let x : ℤ = value_at at (net_read t.from) (of_now q z k (at + i)) (of_old net q z k (at + i)) (of_input net q u k (at + i)) in
+      let rest : ℤ = net_sum q at (map (kept_term shift) ts) (of_now q z k (at + i)) (of_old net q z k (at + i)) (of_input net q u k (at + i)) in
+      let w : ℤ = word_read (y k) (before y k) (u k) t.from in
+      mul-add (pos (2 ^ shift)) (over q (kept shift (weight t)) *ℤ x) rest
+      ∙ ap₂ (λ a b. a +ℤ b)
+      (term_scaled q shift g t x w wholes.0 (value_is k i t.from row (sources 0 t (omega arith)) (there 0 t (omega arith))))
+      (sum_scaled k i shift ts row (λ n d l. sources (suc n) d (omega arith)) (λ n d l. there (suc n) d (omega arith)) wholes.1)
+      ∙ sym (add-mul (weight t *ℤ w) (terms_sum (y k) (before y k) (u k) ts) (pos g))
+
+  -- ---- a row
+
+  row_is : (i : ℕ) → i < length p.rows → row_of (rows_of p) i ≡ net_row (row_at p i)
+  unfolding row_of
+  row_is i row = get_or-map net_row p.rows i _ _ row
+
+  has_terms : (i : ℕ) → i < length p.rows → HasTerms net at i (map (kept_term (row_at p i).shift) (row_at p i).terms)
+  has_terms i row =
+      let shift : ℕ = (row_at p i).shift in
+      let ts : List CodeTerm = (row_at p i).terms in
+      let below : i < length (rows_of p) = rw (length-map p.rows net_row) row in
+      record {
+        inside = let a = room in omega arith;
+        once = are_once shift ts (fits.reads i row).once;
+        fits = all_fit net.rows at i shift ts (λ k d l. read_fits p net.rows at i k ts d fits whole room row refl l);
+        now = λ j l. holds.rows.now i j below l ∙ ap (coefficient (reads_now at j)) (row_is i row) ∙ coefficient_kept (reads_now at j) shift ts zero_fraction;
+        old = λ j l. holds.rows.old i j below l ∙ ap (coefficient (reads_old at j)) (row_is i row) ∙ coefficient_kept (reads_old at j) shift ts zero_fraction;
+        input = λ j l. holds.rows.input i j below l ∙ ap (coefficient (reads_input j)) (row_is i row) ∙ coefficient_kept (reads_input j) shift ts zero_fraction;
+      }
+
+  row_scaled : (k i : ℕ) → i < length p.rows →
+      pos (2 ^ (row_at p i).shift) *ℤ row_sum net q u z k (at + i) ≡ terms_sum (y k) (before y k) (u k) (row_at p i).terms *ℤ pos (q ^ (row_time net k (at + i) + 1))
+  row_scaled k i row =
+      let shift : ℕ = (row_at p i).shift in
+      let ts : List CodeTerm = (row_at p i).terms in
+      ap (λ x. pos (2 ^ shift) *ℤ x) (as_terms net at q i (map (kept_term shift) ts) u z k (has_terms i row))
+      ∙ sum_scaled k i shift ts row (fits.reads i row).sources (whole.reads i _ row) (whole_terms net at q i (map (kept_term shift) ts) den (has_terms i row))
+
+  pub row_near : (k i : ℕ) → i < length p.rows → IsFloored p u y k i → IsWithinHalves net q u z k (at + i)
+  row_near k i row floored =
+      let shift : ℕ = (row_at p i).shift in
+      let s : ℤ = terms_sum (y k) (before y k) (u k) (row_at p i).terms in
+      let number : z k (at + i) ≡ floor_div (pos (constant_of shift) +ℤ s) (2 ^ shift) *ℤ pos (q ^ (row_time net k (at + i) + 1)) =
+      has k i row ∙ ap (λ x. x *ℤ pos (q ^ (row_time net k (at + i) + 1))) floored in
+      subst (λ n. 2 * unsigned_abs (z k (at + i) -ℤ row_sum net q u z k (at + i)) ≤ n * q ^ (row_time net k (at + i) + 1)) (sym (holds.classes i row))
+      (near (2 ^ shift) (class_of shift) (q ^ (row_time net k (at + i) + 1)) (z k (at + i)) (row_sum net q u z k (at + i)) (floor_div (pos (constant_of shift) +ℤ s) (2 ^ shift)) s
+      (pow_pos shift) number (row_scaled k i row) (rounding shift s))
+
+pub floored_rows : (p : Code) → CodeFits p → FlooredRowsRun p
+floored_rows p fits net at q u y z whole holds den has k i row floored = row_near p net at q u y z fits whole holds den has k i row floored
+
+-- ---- words
+
+-- a row that is filled stays
+fill_stays : (f : ℕ → (ℕ → ℤ) → ℤ) (n i j : ℕ) → i ≤ n → j < i → fill f n j ≡ fill f i j
+fill_stays f zero i j h l = absurd (omega arith)
+fill_stays f (suc n) i j h l =
+    elim (cases_lt n i) [
+      | inl above ↦ (let e : suc n ≡ i = omega arith in ap (λ m. fill f m j) e)
+      | inr upto ↦ (let ne : eqb j n ≡ false = ne_eqb j n (λ e. omega arith) in rw ne (fill_stays f n i j upto l))
+    ]
+
+same_terms : (i inputs : ℕ) (now now' old old' input : ℕ → ℤ) (ts : List CodeTerm) → ((n : ℕ) (d : CodeTerm) → n < length ts → SourceFits i inputs (get_or ts n d).from) →
+    ((j : ℕ) → j < i → now j ≡ now' j) → ((j : ℕ) → old j ≡ old' j) → terms_sum now old input ts ≡ terms_sum now' old' input ts
+same_terms i inputs now now' old old' input [] sources hn ho = refl
+same_terms i inputs now now' old old' input (t ∷ ts) sources hn ho =
+    ap₂ (λ x y. weight t *ℤ x +ℤ y) (same_read t.from (sources 0 t (omega arith))) (same_terms i inputs now now' old old' input ts (λ n d l. sources (suc n) d (omega arith)) hn ho)
+  where
+    same_read : (from : Read) → SourceFits i inputs from → word_read now old input from ≡ word_read now' old' input from
+    same_read (Now j) h = hn j h
+    same_read (Old j) h = ho j
+    same_read (In j) h = refl
+
+last_is : (p : Code) (u : ℕ → ℕ → ℤ) (k j : ℕ) → last (length p.rows) (word_step p u) k j ≡ before (words p u) k j
+last_is p u zero j = refl
+last_is p u (suc k) j = refl
+
+sum_is : (p : Code) (u : ℕ → ℕ → ℤ) (k i : ℕ) → CodeFits p → i < length p.rows → sum_at p u k i ≡ whole_sum (row_at p i) (words p u k) (before (words p u) k) (u k)
+sum_is p u k i fits row =
+    ap (λ x. pos (constant_of (row_at p i).shift) +ℤ x)
+    (same_terms i (length p.inputs) (so_far (length p.rows) (word_step p u) k i) (words p u k) (last (length p.rows) (word_step p u) k) (before (words p u) k) (u k) (row_at p i).terms (fits.reads i row).sources
+    (λ j l. sym (fill_stays (λ i now. word_step p u k i now (last (length p.rows) (word_step p u) k)) (length p.rows) i j (omega arith) l)) (last_is p u k))
+
+pub words_run : (p : Code) → CodeFits p → ExactWords p → WordsRun p
+words_run p fits floors net at q u z whole holds den has k i row exact =
+    row_near p net at q u (words p u) z fits whole holds den has k i row
+    (floors u k i row exact ∙ ap (λ s. floor_div s (2 ^ (row_at p i).shift)) (sum_is p u k i fits row))
