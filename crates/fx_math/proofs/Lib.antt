@@ -1,7 +1,10 @@
+pub mod Answers
 pub mod Division
 pub mod Faults
+pub mod Orders
 pub mod Polynomials
 pub mod Residue
 pub mod Ring
 pub mod Sums
 pub mod Unroll
+pub mod Values

@@ -4,7 +4,7 @@ use Rattle.std.proofs.Math.IntN.{ℤ, pos, ◌+ℤ◌, ◌*ℤ◌}
 use Rattle.std.specs.Int.Signed.{◌≤ℤ◌}
 use Rattle.std.proofs.lemmas.Int.{ints}
 use Rattle.fx_math.specs.Sums.{total}
-use Rattle.fx_math.proofs.Ring.{mul-add}
+use Rattle.fx_math.proofs.Ring.{mul-add, mul_comm}
 
 pub total_add : (n : ℕ) (f g : ℕ → ℤ) → total n (λ i. f i +ℤ g i) ≡ total n f +ℤ total n g
 total_add zero f g = refl
@@ -36,3 +36,12 @@ pub total_swap : (n m : ℕ) (f : ℕ → ℕ → ℤ) → total n (λ i. total 
 total_swap zero m f = sym (total_zero m)
 total_swap (suc n) m f =
     ap (λ x. x +ℤ total m (λ j. f n j)) (total_swap n m f) ∙ sym (total_add m (λ j. total n (λ i. f i j)) (λ j. f n j))
+
+-- ---- a factor that one range does not change
+
+pub collect : (m n : ℕ) (f : ℕ → ℕ → ℤ) (x : ℕ → ℤ) → total m (λ k. total n (λ i. f k i *ℤ x i)) ≡ total n (λ i. total m (λ k. f k i) *ℤ x i)
+collect m n f x =
+    total_swap m n (λ k i. f k i *ℤ x i)
+    ∙ total_ext n (λ i. total m (λ k. f k i *ℤ x i)) (λ i. total m (λ k. f k i) *ℤ x i)
+    (λ i l. total_ext m (λ k. f k i *ℤ x i) (λ k. x i *ℤ f k i) (λ k r. mul_comm (f k i) (x i))
+    ∙ sym (total_mul (x i) m (λ k. f k i)) ∙ mul_comm (x i) (total m (λ k. f k i)))

@@ -1,10 +1,11 @@
 -- How a moment is filled: row by row, and alike where the steps agree on the way.
-use Rattle.std.proofs.Common.{◌≡◌, ℕ, zero, suc, ◌<◌, inl, inr, arith, refl, ap, ap₂, ◌∙◌, cond, eqb}
+use Rattle.std.proofs.Common.{◌≡◌, ℕ, zero, suc, ◌<◌, ◌≤◌, inl, inr, arith, refl, ap, ap₂, sym, ◌∙◌, cond, eqb}
 use mathlib.Core.Path.{fun_ext}
 use Rattle.std.proofs.Math.IntN.{ℤ}
 use Rattle.std.proofs.lemmas.Bool.{cases_lt}
 use Rattle.std.proofs.lemmas.Bool.Decides.{nat_tests}
-use Rattle.fx_math.specs.Unroll.{fill}
+use Rattle.fx_math.specs.Laws.{UnrolledIsItsStep}
+use Rattle.fx_math.specs.Unroll.{Step, before, fill, last, unroll}
 
 pub same_fill : (f g : ℕ → (ℕ → ℤ) → ℤ) (n : ℕ) → ((i : ℕ) → i < n → f i (fill g i) ≡ g i (fill g i)) → fill f n ≡ fill g n
 same_fill f g zero h = refl
@@ -21,3 +22,19 @@ fill_at f (suc n) i h =
       | inl below ↦ grind (arith, nat_tests, fill_at f n i below)
       | inr at ↦ let same : i ≡ n = omega arith in rw same (grind (arith, nat_tests))
     ]
+
+-- later rows leave it
+pub fill_kept : (f : ℕ → (ℕ → ℤ) → ℤ) (n i j : ℕ) → j < i → i ≤ n → fill f i j ≡ fill f n j
+fill_kept f n i j h l = fill_at f i j h ∙ sym (fill_at f n j (omega arith))
+
+-- the moment before is the one that was unrolled
+pub last_is_before : (n : ℕ) (step : Step) (k : ℕ) → last n step k ≡ before (unroll n step) k
+last_is_before n step zero = fun_ext (λ j. refl)
+last_is_before n step (suc k) = fun_ext (λ j. refl)
+
+pub unrolled_step : UnrolledIsItsStep
+unrolled_step n step reads k i h =
+    let f : ℕ → (ℕ → ℤ) → ℤ = λ i now. step k i now (last n step k) in
+    fill_at f n i h
+    ∙ reads k i (fill f i) (fill f n) (last n step k) h (λ j l. fill_kept f n i j l (omega arith))
+    ∙ ap₂ (λ now old. step k i now old) (fun_ext (λ j. refl)) (last_is_before n step k)

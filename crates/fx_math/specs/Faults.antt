@@ -16,3 +16,8 @@ infixl 10 ◌>>=◌
 abbrev pub ◌>>=◌ : {F A B : Type 0} → Result A F → (A → Result B F) → Result B F
 (Ok x) >>= next = next x
 (Err fault) >>= next = Err fault
+
+-- the fault where a test fails
+abbrev pub unless : {F : Type 0} → F → Bool → Result (Unit {0}) F
+unless fault true = Ok tt
+unless fault false = Err fault

@@ -1,6 +1,9 @@
+pub mod Answers
 pub mod Division
 pub mod Faults
 pub mod Laws
+pub mod Ratio
 pub mod Residue
 pub mod Sums
 pub mod Unroll
+pub mod Words
