@@ -1,5 +1,6 @@
 -- Intervals at the scale 2 ^ -64.
 use Rattle.std.specs.Prelude.{ℕ, ℤ, pos, neg_ℤ, ◌+ℤ◌, ◌*ℤ◌, ◌^◌, ◌<◌, ◌≤ℤ◌, unsigned_abs, max}
+use Rattle.fx_nums.specs.declared.limits.TheConstants.{INTERVAL_BITS}
 use Rattle.fx_math.specs.Division.{floor_div, ceil_div}
 
 -- the numbers from lo to hi
@@ -15,7 +16,7 @@ pub record IntervalFits (i : Interval) (bits : ℕ) : Type 0 where
 -- what every interval keeps
 pub record IsInterval (i : Interval) : Type 0 where
   pub ordered : i.lo ≤ℤ i.hi
-  pub fits : IntervalFits i 120
+  pub fits : IntervalFits i INTERVAL_BITS
 
 -- one number
 abbrev pub point : ℤ → Interval

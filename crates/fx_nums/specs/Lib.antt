@@ -1,3 +1,4 @@
 pub mod Fraction
 pub mod Interval
+pub mod Signs
 pub mod Whole

@@ -1,7 +1,7 @@
-ghost use Rattle.std.specs.Prelude.{◌≡◌, ◌↔◌, ◌^◌, ◌<◌, ◌≤◌, SomeIff, IsTrue, neg_ℤ, pos};
-ghost use Rattle.fx_nums.specs.declared.fraction.Den.TheVariants.{Ten};
-ghost use Rattle.fx_nums.specs.Fraction.{den_value, DenFits, FractionFits};
+ghost use Rattle.std.specs.Prelude.{◌≡◌, ◌↔◌, ◌^◌, ◌<◌, ◌≤◌, SomeIff, IsTrue};
+ghost use Rattle.fx_nums.specs.Fraction.{den_value, DenFits, FractionFits, is_one, is_zero, minus, one_fraction, zero_fraction};
 
+use crate::limits::{GREATEST_TEN, GREATEST_TWO, NUMERATOR_BITS, VALUE_BITS};
 use std::marker::Model;
 
 /// The denominator of a fraction: a power of two, or of ten.
@@ -19,8 +19,8 @@ impl Den {
         ensures { IsTrue result ↔ DenFits self }
     {
         match self {
-            Den::Two(e) => e <= 62,
-            Den::Ten(d) => d <= 28,
+            Den::Two(e) => e <= GREATEST_TWO,
+            Den::Ten(d) => d <= GREATEST_TEN,
         }
     }
 
@@ -29,7 +29,7 @@ impl Den {
         requires { DenFits self }
         ensures value { result ≡ den_value self }
         ensures positive { 0 < result }
-        ensures bound { result ≤ 10 ^ 28 }
+        ensures bound { result ≤ 10 ^ GREATEST_TEN }
     {
         match self {
             Den::Two(e) => 1u128 << e,
@@ -63,7 +63,10 @@ impl Frac {
         ensures { SomeIff result (FractionFits num den) (record { num = num; den = den }) }
     {
         let magnitude = num.unsigned_abs();
-        if !den.fits() || magnitude >= 1 << 62 || u128::from(magnitude) >= (1 << 24) * den.value() {
+        if !den.fits() || magnitude >= 1 << NUMERATOR_BITS {
+            return None;
+        }
+        if u128::from(magnitude) >= (1 << VALUE_BITS) * den.value() {
             return None;
         }
         Some(Frac { num, den })
@@ -71,7 +74,7 @@ impl Frac {
 
     /// The number 0, over 10^0.
     pub fn zero() -> Frac
-        ensures { result ≡ record { num = pos 0; den = Ten 0 } }
+        ensures { result ≡ zero_fraction }
     {
         Frac {
             num: 0,
@@ -81,7 +84,7 @@ impl Frac {
 
     /// The number 1, over 10^0.
     pub fn one() -> Frac
-        ensures { result ≡ record { num = pos 1; den = Ten 0 } }
+        ensures { result ≡ one_fraction }
     {
         Frac {
             num: 1,
@@ -104,9 +107,23 @@ impl Frac {
         self.den
     }
 
+    /// Whether the fraction is 0.
+    pub fn is_zero(self) -> bool
+        ensures { result ≡ is_zero self }
+    {
+        self.num == 0
+    }
+
+    /// Whether the fraction is 1.
+    pub fn is_one(self) -> bool
+        ensures { result ≡ is_one self }
+    {
+        self.num > 0 && u128::from(self.num.unsigned_abs()) == self.den.value()
+    }
+
     /// The fraction with the other sign.
     pub fn neg(self) -> Frac
-        ensures { result ≡ record { num = neg_ℤ self.num; den = self.den } }
+        ensures { result ≡ minus self }
     {
         Frac {
             num: -self.num,

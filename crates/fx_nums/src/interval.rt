@@ -4,6 +4,7 @@ ghost use Rattle.fx_nums.specs.Fraction.{den_value};
 ghost use Rattle.fx_nums.specs.Interval.{IntervalFits, IsInterval, point, enclosure, plus, opposite, magnitude};
 
 use crate::fraction::Frac;
+use crate::limits::{INTERVAL_BITS, OPERAND_BITS, SUMMAND_BITS};
 use std::marker::Model;
 
 /// The numbers from `lo / 2^64` to `hi / 2^64`, both magnitudes below 2^120.
@@ -27,10 +28,10 @@ impl Model for Iv {
 
 // A sum of two ends.
 fn sum_of(a: i128, b: i128) -> i128
-    requires left { unsigned_abs a < 2 ^ 119 }
-    requires right { unsigned_abs b < 2 ^ 119 }
+    requires left { unsigned_abs a < 2 ^ SUMMAND_BITS }
+    requires right { unsigned_abs b < 2 ^ SUMMAND_BITS }
     ensures value { result ≡ a +ℤ b }
-    ensures fits { unsigned_abs result < 2 ^ 120 }
+    ensures fits { unsigned_abs result < 2 ^ INTERVAL_BITS }
 {
     a + b
 }
@@ -47,9 +48,9 @@ fn at_scale(num: i64) -> i128
 fn floor_of(z: i128, n: u128) -> i128
     requires positive { 0 < n }
     requires fits { n < 2 ^ 127 }
-    requires small { unsigned_abs z ≤ (2 ^ 88 - 1) * n }
+    requires small { unsigned_abs z ≤ (2 ^ OPERAND_BITS - 1) * n }
     ensures value { result ≡ floor_div z n }
-    ensures bound { unsigned_abs result < 2 ^ 88 }
+    ensures bound { unsigned_abs result < 2 ^ OPERAND_BITS }
 {
     z.div_euclid(n as i128)
 }
@@ -59,9 +60,9 @@ fn ceil_of(z: i128, n: u128) -> i128
     requires positive { 0 < n }
     requires fits { n < 2 ^ 127 }
     requires range { unsigned_abs z < 2 ^ 127 }
-    requires small { unsigned_abs z ≤ (2 ^ 88 - 1) * n }
+    requires small { unsigned_abs z ≤ (2 ^ OPERAND_BITS - 1) * n }
     ensures value { result ≡ ceil_div z n }
-    ensures bound { unsigned_abs result < 2 ^ 88 }
+    ensures bound { unsigned_abs result < 2 ^ OPERAND_BITS }
 {
     -floor_of(-z, n)
 }
@@ -69,7 +70,7 @@ fn ceil_of(z: i128, n: u128) -> i128
 impl Iv {
     /// One number, `v / 2^64`.
     pub fn point(v: i128) -> Iv
-        requires { unsigned_abs v < 2 ^ 120 }
+        requires { unsigned_abs v < 2 ^ INTERVAL_BITS }
         ensures { result ≡ point v }
     {
         Iv { lo: v, hi: v }
@@ -78,7 +79,7 @@ impl Iv {
     /// The least interval that encloses a fraction. Both magnitudes are below 2^88.
     pub fn of(c: Frac) -> Iv
         ensures ends { result ≡ enclosure c.num (den_value c.den) }
-        ensures small { IntervalFits result 88 }
+        ensures small { IntervalFits result OPERAND_BITS }
     {
         let scaled = at_scale(c.num());
         let den = c.den().value();
@@ -106,7 +107,7 @@ impl Iv {
 
     /// Whether both magnitudes are below 2^bits.
     pub fn fits(self, bits: u32) -> bool
-        requires { bits ≤ 120 }
+        requires { bits ≤ INTERVAL_BITS }
         ensures { IsTrue result ↔ IntervalFits self bits }
     {
         let limit = 1u128 << bits;
@@ -115,8 +116,8 @@ impl Iv {
 
     /// The sums of the numbers of two intervals.
     pub fn add(self, o: Iv) -> Iv
-        requires left { IntervalFits self 119 }
-        requires right { IntervalFits o 119 }
+        requires left { IntervalFits self SUMMAND_BITS }
+        requires right { IntervalFits o SUMMAND_BITS }
         ensures { result ≡ plus self o }
     {
         Iv {
@@ -136,7 +137,7 @@ impl Iv {
     /// The greater magnitude of the ends, times 2^64. It is below 2^120.
     pub fn magnitude(self) -> i128
         ensures value { result ≡ pos (magnitude self) }
-        ensures fits { magnitude self < 2 ^ 120 }
+        ensures fits { magnitude self < 2 ^ INTERVAL_BITS }
     {
         self.lo.unsigned_abs().max(self.hi.unsigned_abs()) as i128
     }

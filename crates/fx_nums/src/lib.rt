@@ -6,10 +6,15 @@
 
 mod fraction;
 mod interval;
+mod limits;
 mod whole;
 
 pub use fraction::{Den, Frac};
 pub use interval::Iv;
+pub use limits::{
+    FACTOR_BITS, GREATEST_TEN, GREATEST_TWO, INTERVAL_BITS, NUMERATOR_BITS, OPERAND_BITS,
+    SUMMAND_BITS, VALUE_BITS, limits_are_these,
+};
 pub use whole::{whole_at, whole_is_read_exactly};
 
 #[cfg(test)]
