@@ -1,10 +1,10 @@
 -- What calls add to a checksum.
 use Rattle.std.specs.Prelude.{ℕ, ◌+◌, ℤ, unsigned_abs, List, map, Result, Ok, Err}
 use Rattle.std.specs.List.{sum}
-use Rattle.fx_nums.specs.Fraction.{Fraction}
+use Rattle.fx_nums.specs.Fraction.{Fraction, tens}
 use Rattle.fx_decimal.specs.declared.fault.DecimalFault.{DecimalFault}
 use Rattle.fx_decimal.specs.Faults.{numeral}
-use Rattle.fx_decimal.specs.Printed.{tens, up_text}
+use Rattle.fx_decimal.specs.Printed.{up_text}
 
 -- the magnitude of the numerator and the places; nothing for a fault
 abbrev pub read_mark : Result Fraction DecimalFault → ℕ

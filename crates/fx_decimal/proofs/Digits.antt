@@ -9,7 +9,7 @@ use Rattle.std.specs.Char.{is_ascii_digit}
 use Rattle.std.specs.List.{AllByRecursion}
 use Rattle.std.specs.Prelude.{nat_le}
 use Rattle.fx_decimal.specs.Faults.{front_digits}
-use Rattle.fx_decimal.specs.Numeral.{IsDigit, number_from}
+use Rattle.fx_nums.specs.Signs.{IsDigit, number_from}
 use Rattle.fx_decimal.specs.Printed.{lowest}
 
 pub is_digit : (c : ℕ) → is_ascii_digit c ≡ true → IsDigit c

@@ -7,7 +7,8 @@ use Rattle.std.proofs.Math.Nat.{mul_assoc, mul-le-mul_right}
 use Rattle.std.specs.List.{AllByRecursion}
 use Rattle.std.specs.Prelude.{nat_lt}
 use Rattle.fx_decimal.specs.Kept.{kept_from, with_digit}
-use Rattle.fx_decimal.specs.Numeral.{IsDigit, digits_value, limited, number_from, without_zeros}
+use Rattle.fx_nums.specs.Signs.{IsDigit, number_from}
+use Rattle.fx_decimal.specs.Numeral.{digits_value, limited, without_zeros}
 use Rattle.fx_decimal.proofs.Digits.{ten_some}
 use Rattle.fx_decimal.specs.declared.value.Kept.{Kept}
 

@@ -6,7 +6,8 @@ use Rattle.std.proofs.lemmas.Fmt.{decimal_digit, decimal_step, length-decimal-le
 use Rattle.std.proofs.lemmas.List.{replicate_more}
 use Rattle.std.proofs.Math.Nat.{pow-suc}
 use Rattle.std.specs.Prelude.{nat_lt}
-use Rattle.fx_decimal.specs.Printed.{last_digits, minus_text, padded, written}
+use Rattle.fx_nums.specs.Signs.{minus_text}
+use Rattle.fx_decimal.specs.Printed.{last_digits, padded, written}
 
 module _ (k n : ℕ) (small : n < 2 ^ 64) (before : last_digits (suc k) (n / 10) ≡ padded (suc k) (n / 10)) where
   one_digit : n < 10 → last_digits (suc k) (n / 10) ++ ((48 + n % 10) ∷ []) ≡ padded (suc (suc k)) n

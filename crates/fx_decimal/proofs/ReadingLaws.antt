@@ -9,13 +9,14 @@ use Rattle.std.specs.List.{AllByRecursion}
 use Rattle.fx_nums.specs.Fraction.{Fraction}
 use Rattle.fx_nums.specs.Whole.{begins_with_digit}
 use Rattle.fx_decimal.specs.Faults.{Means, NumeralLaw, TextLaw, after_in, and_then, digits_in, exponent_digits, exponent_in, front_digits, is_end, numeral, parts_in, sign_in}
-use Rattle.fx_decimal.specs.Numeral.{AreDigits, Bare, Exponent, IsDigit, IsExponent, IsNumeral, Minus, Parts, Plus, Sign, after_digits, after_text, exponent_text, meaning, parts_text, sign_text}
+use Rattle.fx_nums.specs.Signs.{AreDigits, Bare, IsDigit, Minus, Plus, Sign, sign_text}
+use Rattle.fx_decimal.specs.Numeral.{Exponent, IsExponent, IsNumeral, Parts, after_digits, after_text, exponent_text, meaning, parts_text}
 use Rattle.fx_decimal.proofs.Digits.{front_all, front_taken}
 use Rattle.fx_decimal.proofs.KeptLaws.{all_on}
 
 -- ---- what is read stands there
 
-sign_stands : (text : List ℕ) → text ≡ sign_text (sign_in text).0 ++ (sign_in text).1
+pub sign_stands : (text : List ℕ) → text ≡ sign_text (sign_in text).0 ++ (sign_in text).1
 sign_stands [] = refl
 sign_stands (c ∷ cs) = elim (cases_Bool (c == 43)) [
   | inl plus ↦ let is : c ≡ 43 = eqb-true c 43 plus in rw (plus, is) refl
@@ -25,16 +26,16 @@ sign_stands (c ∷ cs) = elim (cases_Bool (c == 43)) [
   ])
 ]
 
-digits_stand : (text : List ℕ) → text ≡ (digits_in text).0 ++ (digits_in text).1
+pub digits_stand : (text : List ℕ) → text ≡ (digits_in text).0 ++ (digits_in text).1
 digits_stand text =
     let n = length (front_digits text) in
     sym (take-append-drop n text) ∙ ap (λ (t : List ℕ). t ++ drop n text) (front_taken text)
 
-record AfterStands (text : List ℕ) (read : Option (List ℕ) × List ℕ) : Type 0 where
-  stands : text ≡ after_text read.0 ++ read.1
-  all : AllByRecursion IsDigit (after_digits read.0)
+pub record AfterStands (text : List ℕ) (read : Option (List ℕ) × List ℕ) : Type 0 where
+  pub stands : text ≡ after_text read.0 ++ read.1
+  pub all : AllByRecursion IsDigit (after_digits read.0)
 
-after_stands : (text : List ℕ) → AfterStands text (after_in text)
+pub after_stands : (text : List ℕ) → AfterStands text (after_in text)
 after_stands [] = record { stands = refl; all = tt }
 after_stands (c ∷ cs) = elim (cases_Bool (c == 46)) [
   | inl point ↦
@@ -89,7 +90,7 @@ module _ (n c : ℕ) (cs : List ℕ) (letter : c ≡ cond (c == 69) 69 101) wher
         proper = record { some = goes_on read.0 some; all = front_all sign.1 };
       })
 
-letter_is : (c : ℕ) → ((c == 69) || (c == 101)) ≡ true → c ≡ cond (c == 69) 69 101
+pub letter_is : (c : ℕ) → ((c == 69) || (c == 101)) ≡ true → c ≡ cond (c == 69) 69 101
 letter_is c h = elim (cases_Bool (c == 69)) [
   | inl upper ↦ rw upper (eqb-true c 69 upper)
   | inr other ↦ rw other (eqb-true c 101 (rw other at h))
@@ -106,16 +107,16 @@ and_then_ok : {A B E : Type 0} (f : A → Result B E) (r : Result A E) (y : B) �
 and_then_ok f (Ok x) y h = (x, refl, h)
 and_then_ok f (Err e) y h = absurd cc
 
-some_digits : (a b : List ℕ) → (is_end a && is_end b) ≡ false → 1 ≤ length (a ++ b)
+pub some_digits : (a b : List ℕ) → (is_end a && is_end b) ≡ false → 1 ≤ length (a ++ b)
 some_digits [] [] h = absurd cc
 some_digits [] (c ∷ cs) h = omega arith
 some_digits (c ∷ cs) b h = omega arith
 
-record PartsStand (text : List ℕ) (p : Parts) : Type 0 where
-  stands : text ≡ parts_text p
-  proper : IsNumeral p
+pub record PartsStand (text : List ℕ) (p : Parts) : Type 0 where
+  pub stands : text ≡ parts_text p
+  pub proper : IsNumeral p
 
-parts_stand : (text : List ℕ) (p : Parts) → parts_in text ≡ Ok p → PartsStand text p
+pub parts_stand : (text : List ℕ) (p : Parts) → parts_in text ≡ Ok p → PartsStand text p
 unfolding parts_in
 parts_stand text p h =
     let sign = sign_in text in
@@ -210,7 +211,7 @@ point_next : (a : Option (List ℕ)) (e : Option Exponent) → begins_with_digit
 point_next None e = no_digit e
 point_next (Some ds) e = refl
 
-parts_again : (p : Parts) → IsNumeral p → parts_in (parts_text p) ≡ Ok p
+pub parts_again : (p : Parts) → IsNumeral p → parts_in (parts_text p) ≡ Ok p
 unfolding parts_in
 parts_again p h =
     let digits = h.digits in

@@ -3,9 +3,11 @@ use Rattle.std.specs.Prelude.{◌≡◌, ◌↔◌, ℕ, ◌-◌, ◌==◌, ◌&
 use Rattle.std.specs.Char.{is_ascii_digit}
 use Rattle.std.specs.List.{take_while}
 use Rattle.fx_nums.specs.Fraction.{Fraction}
+use Rattle.fx_nums.specs.Signs.{Sign, Bare, Plus, Minus, plus_sign, minus_sign, point_mark, number_from, signed}
 use Rattle.fx_decimal.specs.declared.fault.DecimalFault.{DecimalFault}
 use Rattle.fx_decimal.specs.declared.fault.DecimalFault.TheVariants.{Empty, BadByte}
-use Rattle.fx_decimal.specs.Numeral.{Sign, Bare, Plus, Minus, Exponent, Parts, IsNumeral, after_digits, meaning, number_from, parts_text, signed}
+use Rattle.fx_decimal.specs.Numeral.{Exponent, Parts, IsNumeral, after_digits, large_e, small_e, meaning, parts_text}
+use Rattle.fx_decimal.specs.declared.limits.TheConstants.{GREATEST_EXPONENT}
 
 -- at a byte that cannot go on, in a text of n bytes, or at its end
 abbrev pub stop : ℕ → List ℕ → DecimalFault
@@ -19,7 +21,7 @@ is_end _ = false
 -- a sign or none, and what follows it
 abbrev pub sign_in : List ℕ → Sign × List ℕ
 sign_in [] = (Bare, [])
-sign_in (c ∷ cs) = if c == 43 then (Plus, cs) else (if c == 45 then (Minus, cs) else (Bare, c ∷ cs))
+sign_in (c ∷ cs) = if c == plus_sign then (Plus, cs) else (if c == minus_sign then (Minus, cs) else (Bare, c ∷ cs))
 
 -- the digits at the front
 abbrev pub front_digits : List ℕ → List ℕ
@@ -32,7 +34,7 @@ digits_in text = (front_digits text, drop (length (front_digits text)) text)
 -- a point and the digits behind it, or none, and what follows them
 abbrev pub after_in : List ℕ → Option (List ℕ) × List ℕ
 after_in [] = (None, [])
-after_in (c ∷ cs) = if c == 46 then (Some (digits_in cs).0, (digits_in cs).1) else (None, c ∷ cs)
+after_in (c ∷ cs) = if c == point_mark then (Some (digits_in cs).0, (digits_in cs).1) else (None, c ∷ cs)
 
 -- the digits of an exponent, to the end of the text
 abbrev pub exponent_digits : ℕ → Bool → Sign → List ℕ × List ℕ → Result (Option Exponent) DecimalFault
@@ -40,12 +42,12 @@ exponent_digits n upper sign read = if is_end read.0 || not (is_end read.1) then
 
 -- the value of an exponent whose sign and digits are read, to the end of the text
 abbrev pub exponent_number : ℕ → Bool → List ℕ × List ℕ → Result ℤ DecimalFault
-exponent_number n negative read = if is_end read.0 || not (is_end read.1) then Err (stop n read.1) else Ok (signed negative (min (number_from 0 read.0) 9999))
+exponent_number n negative read = if is_end read.0 || not (is_end read.1) then Err (stop n read.1) else Ok (signed negative (min (number_from 0 read.0) GREATEST_EXPONENT))
 
 -- an exponent or none, to the end of a text of n bytes
 unfoldable pub exponent_in : ℕ → List ℕ → Result (Option Exponent) DecimalFault
 exponent_in n [] = Ok None
-exponent_in n (c ∷ cs) = if c == 69 || c == 101 then exponent_digits n (c == 69) (sign_in cs).0 (digits_in (sign_in cs).1) else Err (stop n (c ∷ cs))
+exponent_in n (c ∷ cs) = if c == large_e || c == small_e then exponent_digits n (c == large_e) (sign_in cs).0 (digits_in (sign_in cs).1) else Err (stop n (c ∷ cs))
 
 -- goes on with a value, and keeps a fault
 abbrev pub and_then : {A B E : Type 0} → (A → Result B E) → Result A E → Result B E

@@ -1,3 +1,4 @@
+pub mod Continued
 pub mod Faults
 pub mod Kept
 pub mod Numeral

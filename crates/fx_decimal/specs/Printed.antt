@@ -1,28 +1,24 @@
 -- Decimals as they are printed.
-use Rattle.std.specs.Prelude.{◌≡◌, ℕ, zero, suc, ◌+◌, ◌-◌, ◌*◌, ◌/◌, ◌%◌, ◌^◌, ◌==◌, Bool, true, false, if◌then◌else◌, ℤ, pos, negsuc, ◌*ℤ◌, unsigned_abs, List, [], ◌∷◌, ◌++◌, length, replicate}
+use Rattle.std.specs.Prelude.{ℕ, zero, suc, ◌+◌, ◌-◌, ◌*◌, ◌/◌, ◌%◌, ◌^◌, ◌==◌, Bool, true, false, if◌then◌else◌, ℤ, pos, negsuc, ◌*ℤ◌, unsigned_abs, List, [], ◌∷◌, ◌++◌, length, replicate}
 use Rattle.std.specs.Fmt.{decimal}
 use Rattle.std.specs.Int.{div_ceil}
 use Rattle.fx_math.specs.Division.{floor_div, ceil_div}
-use Rattle.fx_nums.specs.Fraction.{Fraction}
-use Rattle.fx_nums.specs.declared.fraction.Den.{Den}
-use Rattle.fx_nums.specs.declared.fraction.Den.TheVariants.{Two, Ten}
+use Rattle.fx_nums.specs.Fraction.{Fraction, tens}
+use Rattle.fx_nums.specs.Signs.{digit_zero, point_mark, minus_text}
 
 -- zeros, and the decimal of a number below 10 ^ k, k digits in all
 unfoldable pub padded : ℕ → ℕ → List ℕ
-padded k n = replicate (k - length (decimal n)) 48 ++ decimal n
+padded k n = replicate (k - length (decimal n)) digit_zero ++ decimal n
 
 -- the last k digits of a number
 abbrev pub last_digits : ℕ → ℕ → List ℕ
 last_digits zero n = []
-last_digits (suc k) n = last_digits k (n / 10) ++ ((48 + n % 10) ∷ [])
+last_digits (suc k) n = last_digits k (n / 10) ++ ((digit_zero + n % 10) ∷ [])
 
 -- a point and digits, or nothing where no digit is wanted
 abbrev pub places_text : ℕ → ℕ → List ℕ
 places_text zero n = []
-places_text (suc k) n = 46 ∷ padded (suc k) n
-
-abbrev pub minus_text : Bool → List ℕ
-minus_text negative = if negative then 45 ∷ [] else []
+places_text (suc k) n = point_mark ∷ padded (suc k) n
 
 abbrev pub is_below_zero : ℤ → Bool
 is_below_zero (pos n) = false
@@ -53,17 +49,8 @@ abbrev pub lowest : ℕ → ℕ → ℕ × ℕ
 lowest n zero = (n, 0)
 lowest n (suc d) = if n % 10 == 0 then lowest (n / 10) d else (n, suc d)
 
--- the power of ten of a denominator
-abbrev pub tens : Den → ℕ
-tens (Ten d) = d
-tens (Two e) = 0
-
 -- a fraction over a power of ten, exactly, with no zero at the end of its places
 unfoldable pub fraction_text : Fraction → List ℕ
 fraction_text c =
     let r = lowest (unsigned_abs c.num) (tens c.den) in
     written (is_below_zero c.num) (r.0 / 10 ^ r.1) (r.0 % 10 ^ r.1) r.1
-
--- the denominator is a power of ten
-abbrev pub IsOverTen : Den → Type 0
-IsOverTen den = den ≡ Ten (tens den)

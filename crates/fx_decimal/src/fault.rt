@@ -5,10 +5,10 @@ pub enum DecimalFault {
     Empty,
     /// The first byte, counted from 0, that cannot continue a numeral.
     BadByte(usize),
-    /// More than 18 digits between the zeros at both ends.
+    /// More than `MOST_DIGITS` digits between the zeros at both ends.
     TooManyDigits,
-    /// The last digit that is not zero stands below 10^-28.
+    /// The last digit that is not zero stands below 10^-`GREATEST_TEN`.
     TooFine,
-    /// The magnitude is 2^24 or more.
+    /// The magnitude is 2^`VALUE_BITS` or more.
     TooLarge,
 }

@@ -2,15 +2,19 @@
 
 ghost use Rattle.std.specs.Prelude.{◌≡◌, ◌≤◌, ◌<◌, ◌+◌, ◌-◌, ◌*◌, ◌/◌, ◌%◌, ◌^◌, ◌++◌, ◌∷◌, [], ℕ, List, length, take, pos, unsigned_abs, Bool, if◌then◌else◌, ◌&&◌, ◌==◌, not};
 ghost use Rattle.std.specs.Fmt.{decimal};
-ghost use Rattle.fx_decimal.specs.Printed.{IsOverTen, down_text, fraction_text, last_digits, lowest, minus_text, units, up_text, written};
+ghost use Rattle.fx_nums.specs.Fraction.{IsOverTen};
+ghost use Rattle.fx_nums.specs.Signs.{minus_text};
+ghost use Rattle.fx_decimal.specs.declared.limits.TheConstants.{LONGEST_DECIMAL};
+ghost use Rattle.fx_decimal.specs.Printed.{down_text, fraction_text, last_digits, lowest, units, up_text, written};
 
-use fx_nums::{Den, Frac};
+use crate::limits::{LONGEST_DECIMAL, MOST_PLACES};
+use fx_nums::{Den, Frac, GREATEST_TEN};
 use std::marker::Model;
 
 /// A printed decimal: a text of at most 64 bytes.
 #[derive(Drop)]
 pub struct Decimal {
-    text: [u8; 64],
+    text: [u8; LONGEST_DECIMAL],
     len: usize,
 }
 
@@ -19,7 +23,7 @@ impl Model for Decimal {
 
     ghost view = { λ d. take d.len d.text };
 
-    ghost invariant = { λ d. d.len ≤ 64 };
+    ghost invariant = { λ d. d.len ≤ LONGEST_DECIMAL };
 }
 
 impl Decimal {
@@ -27,13 +31,13 @@ impl Decimal {
         ensures { result ≡ [] }
     {
         Decimal {
-            text: [0; 64],
+            text: [0; LONGEST_DECIMAL],
             len: 0,
         }
     }
 
     fn push(&mut self, byte: u8)
-        requires { length self.old < 64 }
+        requires { length self.old < LONGEST_DECIMAL }
         ensures { self.new ≡ self.old ++ byte ∷ [] }
     {
         self.text[self.len] = byte;
@@ -42,7 +46,7 @@ impl Decimal {
 
     // The decimal of a number.
     fn push_number(&mut self, number: u64)
-        requires { length self.old + length (decimal number) ≤ 64 }
+        requires { length self.old + length (decimal number) ≤ LONGEST_DECIMAL }
         ensures { self.new ≡ self.old ++ decimal number }
     {
         if number < 10 {
@@ -55,7 +59,7 @@ impl Decimal {
 
     // The last digits of a number, this many.
     fn push_places(&mut self, number: u64, places: u8)
-        requires { length self.old + places ≤ 64 }
+        requires { length self.old + places ≤ LONGEST_DECIMAL }
         ensures { self.new ≡ self.old ++ last_digits places number }
     {
         if places > 0 {
@@ -67,7 +71,7 @@ impl Decimal {
     /// The text.
     pub fn bytes(&self) -> &[u8]
         ensures text { result.now ≡ self.now }
-        ensures short { length self.now ≤ 64 }
+        ensures short { length self.now ≤ LONGEST_DECIMAL }
     {
         &self.text[..self.len]
     }
@@ -98,7 +102,7 @@ fn whole_text(negative: bool, whole: u64) -> Decimal
 // A sign, a whole number, and behind a point the other digits.
 #[tactic(auto, unfolding(crate::specs::Printed::written))]
 fn written(negative: bool, whole: u64, rest: u64, places: u8) -> Decimal
-    requires places { places ≤ 28 }
+    requires places { places ≤ GREATEST_TEN }
     requires rest { rest < 10 ^ places }
     ensures { result ≡ written negative whole rest places }
 {
@@ -114,7 +118,7 @@ fn written(negative: bool, whole: u64, rest: u64, places: u8) -> Decimal
 // A magnitude over 2^64 in units of the last place, rounded up or down: the whole part and the rest.
 fn split(magnitude: u128, places: u8, up: bool) -> (u64, u64)
     requires magnitude { magnitude ≤ 2 ^ 126 }
-    requires places { places ≤ 18 }
+    requires places { places ≤ MOST_PLACES }
     ensures whole { result.0 ≡ units up magnitude places / 10 ^ places }
     ensures rest { result.1 ≡ units up magnitude places % 10 ^ places }
     ensures below { result.1 < 10 ^ places }
@@ -133,7 +137,7 @@ fn split(magnitude: u128, places: u8, up: bool) -> (u64, u64)
 // A magnitude over 2^64 with this many places, rounded up or down, and with a sign unless it is zero.
 fn rounded(negative: bool, magnitude: u128, places: u8, up: bool) -> Decimal
     requires magnitude { magnitude ≤ 2 ^ 126 }
-    requires places { places ≤ 18 }
+    requires places { places ≤ MOST_PLACES }
     ensures { let n = units up magnitude places in result ≡ written (negative && not (n == 0)) (n / 10 ^ places) (n % 10 ^ places) places }
 {
     let (whole, rest) = split(magnitude, places, up);
@@ -145,7 +149,7 @@ fn rounded(negative: bool, magnitude: u128, places: u8, up: bool) -> Decimal
 pub fn print_up(v: i128, places: u8) -> Decimal
     requires range { unsigned_abs v < 2 ^ 126 }
     requires some { 1 ≤ places }
-    requires few { places ≤ 18 }
+    requires few { places ≤ MOST_PLACES }
     ensures { result ≡ up_text v places }
 {
     if v < 0 {
@@ -160,7 +164,7 @@ pub fn print_up(v: i128, places: u8) -> Decimal
 pub fn print_down(v: i128, places: u8) -> Decimal
     requires range { unsigned_abs v < 2 ^ 126 }
     requires some { 1 ≤ places }
-    requires few { places ≤ 18 }
+    requires few { places ≤ MOST_PLACES }
     ensures { result ≡ down_text v places }
 {
     if v < 0 {

@@ -2,10 +2,13 @@
 
 ghost use Rattle.std.specs.Prelude.{◌≡◌, ◌≤◌, ◌+◌, ◌^◌, ◌<◌, ◌++◌, ◌-ℤ◌, ◌+ℤ◌, pos, IfOk, length, Ok, unsigned_abs};
 ghost use Rattle.std.specs.List.{AllByRecursion};
+ghost use Rattle.fx_decimal.specs.Continued.{BadByteLaw, EmptyLaw};
 ghost use Rattle.fx_decimal.specs.Faults.{NumeralLaw, TextLaw, after_in, and_then, digits_in, exponent_in, exponent_number, front_digits, numeral, sign_in, stop};
-ghost use Rattle.fx_decimal.specs.Numeral.{IsDigit, after_digits, digits_value, exponent_value, is_minus};
+ghost use Rattle.fx_nums.specs.Signs.{IsDigit, is_minus};
+ghost use Rattle.fx_decimal.specs.Numeral.{after_digits, digits_value, exponent_value};
 
 use crate::fault::DecimalFault;
+use crate::limits::GREATEST_EXPONENT;
 use crate::value::{Kept, clipped, kept_digits, limited, signed};
 use fx_nums::Frac;
 
@@ -69,7 +72,7 @@ fn stop(total: usize, rest: &[u8]) -> DecimalFault
 fn exponent_digits(total: usize, negative: bool, text: &[u8]) -> Result<i64, DecimalFault>
     requires { length text.now ≤ total }
     ensures value { result ≡ exponent_number total negative (digits_in text.now) }
-    ensures within { IfOk result (λ e. unsigned_abs e ≤ 9999) }
+    ensures within { IfOk result (λ e. unsigned_abs e ≤ GREATEST_EXPONENT) }
 {
     let (digits, rest) = digits(text);
     if digits.is_empty() || !rest.is_empty() {
@@ -83,7 +86,7 @@ fn exponent_digits(total: usize, negative: bool, text: &[u8]) -> Result<i64, Dec
 fn exponent(total: usize, text: &[u8]) -> Result<i64, DecimalFault>
     requires { length text.now ≤ total }
     ensures value { result ≡ and_then (λ e. Ok (exponent_value e)) (exponent_in total text.now) }
-    ensures within { IfOk result (λ e. unsigned_abs e ≤ 9999) }
+    ensures within { IfOk result (λ e. unsigned_abs e ≤ GREATEST_EXPONENT) }
 {
     match text {
         [] => Ok(0),
@@ -97,7 +100,7 @@ fn exponent(total: usize, text: &[u8]) -> Result<i64, DecimalFault>
 
 // The power of ten of a number, behind whose last digit zeros are dropped.
 fn power(exponent: i64, after: usize, zeros: usize) -> i128
-    requires { unsigned_abs exponent ≤ 9999 }
+    requires { unsigned_abs exponent ≤ GREATEST_EXPONENT }
     ensures value { result ≡ (exponent -ℤ pos after) +ℤ pos zeros }
     ensures small { unsigned_abs result < 2 ^ 100 }
 {
@@ -109,7 +112,7 @@ fn value(negative: bool, whole: &[u8], after: &[u8], exponent: i64) -> Result<Fr
     requires whole { AllByRecursion IsDigit whole.now }
     requires after { AllByRecursion IsDigit after.now }
     requires few { length whole.now + length after.now < 2 ^ 63 }
-    requires exponent { unsigned_abs exponent ≤ 9999 }
+    requires exponent { unsigned_abs exponent ≤ GREATEST_EXPONENT }
     ensures { result ≡ digits_value negative (whole.now ++ after.now) (length after.now) exponent }
 {
     let nothing = Kept {
@@ -153,4 +156,15 @@ pub fn fraction_is_read_exactly()
 /// The text of a numeral's parts is read as what they mean, be it a fraction or the fault of a limit.
 pub fn numeral_is_read_as_it_means()
     ensures { TextLaw }
+{}
+
+/// `Empty` is told exactly where a text is no numeral, but can be continued to one.
+pub fn empty_is_unfinished()
+    ensures { EmptyLaw }
+{}
+
+/// `BadByte` is told exactly at the byte before which the text can be continued to a numeral, and with which it can
+/// not.
+pub fn bad_byte_is_where_it_stops()
+    ensures { BadByteLaw }
 {}

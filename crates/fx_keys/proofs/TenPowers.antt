@@ -3,7 +3,8 @@ use Rattle.std.proofs.Common.{ℕ, length, ◌==◌, ◌*◌, ◌^◌, ◌+◌, 
 use Rattle.std.proofs.Math.IntN.{ℤ, pos, negsuc, ◌+ℤ◌, ◌-ℤ◌}
 use Rattle.fx_nums.specs.Fraction.{Fraction}
 use Rattle.fx_decimal.specs.Faults.{numeral, parts_in, and_then}
-use Rattle.fx_decimal.specs.Numeral.{Parts, bounded, scaled, limited, digits_value, meaning, number_from, without_zeros}
+use Rattle.fx_nums.specs.Signs.{number_from}
+use Rattle.fx_decimal.specs.Numeral.{Parts, bounded, scaled, limited, digits_value, meaning, without_zeros}
 use Rattle.fx_decimal.specs.declared.fault.DecimalFault.{DecimalFault}
 use Rattle.fx_keys.specs.Fits.{OverTen}
 

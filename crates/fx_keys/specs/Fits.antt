@@ -1,7 +1,6 @@
 -- What the numbers that are read keep.
 use Rattle.std.specs.Prelude.{ℕ, ◌≤◌, List, length, All}
-use Rattle.fx_decimal.specs.Printed.{IsOverTen}
-use Rattle.fx_nums.specs.Fraction.{Fraction}
+use Rattle.fx_nums.specs.Fraction.{IsOverTen, Fraction}
 
 -- a fraction over a power of ten
 abbrev pub OverTen : Fraction → Type 0

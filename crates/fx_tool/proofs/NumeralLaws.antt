@@ -11,7 +11,7 @@ use Rattle.fx_decimal.proofs.Digits.{front_all, front_taken}
 use Rattle.fx_decimal.proofs.ReadingLaws.{front_again}
 use Rattle.fx_decimal.specs.Faults.{front_digits, numeral}
 use Rattle.fx_decimal.specs.Numeral.{after_text}
-use Rattle.fx_decimal.specs.Printed.{minus_text}
+use Rattle.fx_nums.specs.Signs.{minus_text}
 use Rattle.fx_decimal.specs.declared.fault.DecimalFault.{DecimalFault}
 use Rattle.fx_tool.specs.Numeral.{AreFewDigits, IsAfter, IsPlain, Numeral, PlainLaw, numeral_text, numeral_value}
 use Rattle.fx_tool.specs.NumeralReading.{after_in, behind_point, digits_in, numeral_in, plain_in, read_before, unsigned_in, value_in, valued}

@@ -12,8 +12,8 @@ use Rattle.fx_nums.specs.Fraction.{Fraction}
 use Rattle.fx_nums.specs.declared.fraction.Den.TheVariants.{Ten}
 use Rattle.fx_decimal.proofs.KeptLaws.{all_on}
 use Rattle.fx_decimal.specs.Faults.{TextLaw, after_in, and_then, digits_in, ended, exponent_in, is_end, numeral, parts_in, sign_in}
-use Rattle.fx_decimal.specs.Numeral.{Bare, Exponent, IsDigit, IsNumeral, Minus, Parts, Sign, after_digits, after_text, all_digits, bounded, digits_value, exponent_value, is_minus, limited, meaning, number_from, parts_text, scaled, signed, without_zeros}
-use Rattle.fx_decimal.specs.Printed.{minus_text}
+use Rattle.fx_nums.specs.Signs.{Bare, IsDigit, Minus, Sign, is_minus, number_from, signed, minus_text}
+use Rattle.fx_decimal.specs.Numeral.{Exponent, IsNumeral, Parts, after_digits, after_text, all_digits, bounded, digits_value, exponent_value, limited, meaning, parts_text, scaled, without_zeros}
 use Rattle.fx_decimal.specs.declared.fault.DecimalFault.{DecimalFault}
 use Rattle.fx_tool.specs.Numeral.{AreFewDigits, IsAfter, IsPlain, Numeral, PlainLaw, fraction_or_zero, numeral_text, numeral_value}
 

@@ -8,7 +8,7 @@ use Rattle.std.specs.List.{starts_with}
 use Rattle.std.specs.Prelude.{nat_eq}
 use Rattle.fx_nums.specs.Whole.{begins_with_digit, whole_in}
 use Rattle.fx_nums.proofs.WholeLaws.{stands_there, whole_in-decimal}
-use Rattle.fx_decimal.specs.Printed.{minus_text}
+use Rattle.fx_nums.specs.Signs.{minus_text}
 use Rattle.fx_tool.specs.Text.{◌>>=◌, numbered_in, sign_in, sign_or, text_in}
 
 pub bind_some : {A B : Type 0} (o : Option A) (f : A → Option B) (y : B) → (o >>= f) ≡ Some y → (x : A) × (o ≡ Some x) × (f x ≡ Some y)

@@ -4,8 +4,8 @@ use Rattle.std.specs.List.{AllByRecursion}
 use Rattle.fx_nums.specs.Fraction.{Fraction}
 use Rattle.fx_nums.specs.declared.fraction.Den.TheVariants.{Ten}
 use Rattle.fx_decimal.specs.Faults.{numeral}
-use Rattle.fx_decimal.specs.Numeral.{IsDigit, after_text}
-use Rattle.fx_decimal.specs.Printed.{minus_text}
+use Rattle.fx_nums.specs.Signs.{IsDigit, minus_text}
+use Rattle.fx_decimal.specs.Numeral.{after_text}
 use Rattle.fx_decimal.specs.declared.fault.DecimalFault.{DecimalFault}
 
 -- whether a minus stands first, the digits before a point, and those behind it where there is one

@@ -1,6 +1,6 @@
 use Rattle.std.proofs.Common.{◌≡◌, ◌∷◌, ◌+◌, ◌-◌, ◌*◌, ◌∙◌, min, drop, get_or, drop-cons, add-one, arith}
 use Rattle.std.specs.List.{AllByRecursion}
-use Rattle.fx_decimal.specs.Numeral.{IsDigit, number_from}
+use Rattle.fx_nums.specs.Signs.{IsDigit, number_from}
 use Rattle.fx_decimal.proofs.Digits.{clip_once}
 use Rattle.fx_decimal.proofs.value.clipped.Goals as goal
 

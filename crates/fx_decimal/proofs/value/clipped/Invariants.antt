@@ -1,6 +1,6 @@
 use Rattle.std.proofs.Common.{◌≡◌, ◌≤◌, min, drop}
 use Rattle.std.specs.List.{AllByRecursion}
-use Rattle.fx_decimal.specs.Numeral.{IsDigit, number_from}
+use Rattle.fx_nums.specs.Signs.{IsDigit, number_from}
 use Rattle.fx_decimal.proofs.value.clipped.Given as goal
 
 abbrev pub invariant-loop-digit : goal.invariant-loop-digit

@@ -1,7 +1,7 @@
 use Rattle.std.proofs.Common.{◌≡◌, ◌≤◌, ◌+◌, ◌^◌, drop}
 use Rattle.std.specs.List.{AllByRecursion}
 use Rattle.fx_decimal.specs.Kept.{kept_from}
-use Rattle.fx_decimal.specs.Numeral.{IsDigit}
+use Rattle.fx_nums.specs.Signs.{IsDigit}
 use Rattle.fx_decimal.proofs.value.kept_digits.Given as goal
 
 abbrev pub invariant-loop-digit : goal.invariant-loop-digit
