@@ -1,0 +1,15 @@
+pub mod Counts
+pub mod Empty
+pub mod Entries
+pub mod Facts
+pub mod Free
+pub mod Links
+pub mod Put
+pub mod Sets
+pub mod Spots
+pub mod Splice
+pub mod Steps
+pub mod Sums
+pub mod Take
+pub mod Walks
+pub mod Writes

@@ -1,0 +1,7 @@
+use Rattle.std.proofs.Common.{arith}
+use Rattle.fx_cross.specs.Walks.{row_line}
+use Rattle.fx_cross.proofs.Links.{links_low}
+use Rattle.fx_cross.proofs.cross.Cross.row.Goals as goal
+
+pub returns-clause-short : goal.returns-clause-short
+returns-clause-short c = omega (arith, links_low (row_line c.args.self.now c.args.i) 0, c.entries_have_places.ensures)
