@@ -3,7 +3,7 @@ use Rattle.std.specs.Prelude.{ℕ, zero, suc, ◌+◌, ◌*◌, ◌/◌, ◌%◌
 use Rattle.std.specs.Int.{cast_unsigned, w64}
 use Rattle.fx_code.specs.Code.{Code}
 use Rattle.fx_code.specs.Inputs.{word_at}
-use Rattle.fx_code.specs.Moments.{outputs_at}
+use Rattle.fx_code.specs.Run.{outputs_at}
 
 -- the generator's number behind a number
 abbrev pub next_seed : ℕ → ℕ

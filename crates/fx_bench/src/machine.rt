@@ -2,11 +2,12 @@
 
 ghost use Rattle.std.specs.Prelude.{◌≡◌, ◌<◌, ℤ, List, [], ◌∷◌, ◌++◌, length, pos, IfOk};
 ghost use Rattle.fx_code.specs.Code.{Code};
-ghost use Rattle.fx_code.specs.Moments.{StandsAfter};
+ghost use Rattle.fx_machine.specs.Moments.{StandsAfter};
 ghost use Rattle.fx_bench.specs.Runs.{drawn, low_bits, mixed, next_seed, put_word, words_sum};
 
 use crate::per_call::PerCall;
-use fx_code::{CodeTerm, Machine, Marks, Program, ProgramFault, Read};
+use fx_code::{CodeTerm, Program, ProgramFault, Read};
+use fx_machine::{Machine, Marks};
 use std::alloc::{AllocError, Global};
 use std::io;
 use std::rt::Clock;

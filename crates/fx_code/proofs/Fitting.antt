@@ -1,5 +1,5 @@
 -- What a program's tests refuse not, fits; and what fits, they refuse not.
-use Rattle.std.proofs.Common.{◌≡◌, ℕ, ◌+◌, ◌-◌, ◌^◌, ◌<◌, ◌≤◌, ◌∙◌, min, Bool, false, not, ◌||◌, eqb, List, [], ◌∷◌, ◌++◌, length, All, Option, None, refl, arith, unsigned_abs, nat_lt, nat_le, slice_index_or, inl, inr, append_assoc, length-append}
+use Rattle.std.proofs.Common.{◌≡◌, ℕ, ◌+◌, ◌-◌, ◌^◌, ◌<◌, ◌≤◌, ◌∙◌, min, Bool, true, false, IsTrue, not, ◌||◌, eqb, List, [], ◌∷◌, ◌++◌, length, All, Option, None, refl, arith, unsigned_abs, nat_lt, nat_le, slice_index_or, inl, inr, append_assoc, length-append}
 use Rattle.std.specs.List.{IsDistinct, AllByRecursion, list_any}
 use Rattle.std.proofs.lemmas.Bool.{cases_lt, or_parts, or_from, ltb-false, le-ltb, lt-leb}
 use Rattle.std.proofs.lemmas.Bool.Decides.{nat_tests}
@@ -8,10 +8,14 @@ use Rattle.std.proofs.lemmas.List.Elements.{All-push, All-nil, All-cons, All-hea
 use Rattle.std.proofs.lemmas.List.Folds.{list_any-append}
 use Rattle.std.proofs.lemmas.List.Sums.{sum_by-append}
 use Rattle.std.proofs.Math.Seq.{get_or-append_seam}
+use Rattle.fx_math.specs.Words.{WidthFits, is_accumulator}
+use Rattle.fx_math.specs.declared.words.TheConstants.{LEAST_WIDTH, GREATEST_WIDTH}
 use Rattle.fx_math.proofs.Faults.{if_none, none_if, or_none}
+use Rattle.fx_math.proofs.Orders.{not_le}
 use Rattle.fx_code.specs.Code.{Row, Code, weight}
-use Rattle.fx_code.specs.Fits.{TermFits, RowFits, SourceFits, ReadsFit, WidthFits, CodeFits}
+use Rattle.fx_code.specs.Fits.{TermFits, RowFits, SourceFits, ReadsFit, CodeFits}
 use Rattle.fx_code.specs.Limits.{is_outside, width_fault, start_fault, same_source, source_fault, term_fault, terms_fault, term_count, row_fault, output_fault}
+use Rattle.fx_code.specs.declared.limits.TheConstants.{CODE_ROWS, CODE_TERMS, LONGEST_SHIFT, COEFFICIENT_BITS, PRODUCT_BITS}
 use Rattle.fx_code.specs.declared.term.CodeTerm.{CodeTerm}
 use Rattle.fx_code.specs.declared.term.Read.{Read}
 use Rattle.fx_code.specs.declared.term.Read.TheVariants.{Now, Old, In}
@@ -24,14 +28,11 @@ inside_from low high n e =
     let p = or_parts (nat_lt n low) (nat_lt high n) e in
     (ltb-false n low p.0, ltb-false high n p.1)
 
-not_le : (a b : ℕ) → nat_le a b ≡ false → b < a
-not_le a b h = grind (arith, nat_tests)
-
 width_none : (widths : List ℕ) → width_fault widths ≡ None → All WidthFits widths
 width_none [] e = All-nil WidthFits
 width_none (w ∷ ws) e =
     let p = if_none _ _ _ e in
-    let q = inside_from 2 32 w p.0 in
+    let q = inside_from LEAST_WIDTH GREATEST_WIDTH w p.0 in
     All-cons WidthFits w ws (record { low = q.0; high = q.1 }) (width_none ws p.1)
 
 source_none : (n inputs : ℕ) (from : Read) (rest : Option ProgramFault) → source_fault n inputs from rest ≡ None → SourceFits n inputs from × (rest ≡ None)
@@ -41,7 +42,7 @@ source_none n inputs (Now i) rest e =
     (not_le n i q.0, q.1)
 source_none n inputs (Old i) rest e =
     let p = if_none _ _ _ e in
-    (not_le 40 i p.0, p.1)
+    (not_le CODE_ROWS i p.0, p.1)
 source_none n inputs (In j) rest e =
     let p = if_none _ _ _ e in
     (not_le inputs j p.0, p.1)
@@ -61,10 +62,10 @@ term_none n inputs shift earlier t e =
     let bounds = or_parts _ _ product.0 in
     record {
       fits = record {
-        left = ltb-false 62 t.left left.0;
-        coefficient = not_le (2 ^ 62) (unsigned_abs t.coef) coefficient.0;
-        product = not_le (2 ^ 62) (unsigned_abs (weight t)) bounds.0;
-        scaled = not_le (2 ^ (24 + shift)) (unsigned_abs (weight t)) bounds.1;
+        left = ltb-false LONGEST_SHIFT t.left left.0;
+        coefficient = not_le (2 ^ COEFFICIENT_BITS) (unsigned_abs t.coef) coefficient.0;
+        product = not_le (2 ^ COEFFICIENT_BITS) (unsigned_abs (weight t)) bounds.0;
+        scaled = not_le (2 ^ (PRODUCT_BITS + shift)) (unsigned_abs (weight t)) bounds.1;
       };
       source = source.0;
       once = once.0;
@@ -105,7 +106,7 @@ start_fits accumulator inputs e =
     let first = if_none _ _ _ e in
     let count = if_none _ _ _ first.1 in
     let within = inside_from 1 4 (length inputs) count.0 in
-    let h : not (eqb accumulator 16 || (eqb accumulator 32 || eqb accumulator 64)) ≡ false = first.0 in
+    let h : not (eqb 16 accumulator || (eqb 32 accumulator || (eqb 64 accumulator || false))) ≡ false = first.0 in
     record {
       accumulator = grind (arith, nat_tests, h);
       accumulator_low = grind (arith, nat_tests, h);
@@ -138,15 +139,14 @@ row_added p row fits e =
     let shift = if_none _ _ _ width.1 in
     let terms = or_none _ _ shift.1 in
     let total = if_none _ _ _ terms.1 in
-    let below : n + 1 ≤ 40 = ltb-false 40 (n + 1) count.0 in
-    let within = inside_from 2 (min 32 p.accumulator) row.width width.0 in
-    let shifted : row.shift ≤ min 62 (p.accumulator - 1) = ltb-false (min 62 (p.accumulator - 1)) row.shift shift.0 in
-    let few : term_count p.rows + length row.terms ≤ 624 = ltb-false 624 _ total.0 in
+    let below : n + 1 ≤ CODE_ROWS = ltb-false CODE_ROWS (n + 1) count.0 in
+    let within = inside_from LEAST_WIDTH (min GREATEST_WIDTH p.accumulator) row.width width.0 in
+    let shifted : row.shift ≤ min LONGEST_SHIFT (p.accumulator - 1) = ltb-false (min LONGEST_SHIFT (p.accumulator - 1)) row.shift shift.0 in
+    let few : term_count p.rows + length row.terms ≤ CODE_TERMS = ltb-false CODE_TERMS _ total.0 in
     let each = terms_fit n (length p.inputs) row.shift [] row.terms terms.0 in
     let longer = length-append p.rows (row ∷ []) in
     let here : RowFits p.accumulator row = record {
-      width_low = within.0;
-      width_high = omega (arith, within.1);
+      width = record { low = within.0; high = omega (arith, within.1) };
       width_kept = omega (arith, within.1);
       shift_high = omega arith;
       shift_kept = omega (arith, fits.accumulator_low);
@@ -197,17 +197,21 @@ widths_pass : (widths : List ℕ) → All WidthFits widths → width_fault width
 widths_pass [] h = refl
 widths_pass (w ∷ ws) h =
     let here = All-head WidthFits w ws h in
-    none_if _ _ _ (not_outside 2 32 w here.low here.high) (widths_pass ws (All-tail WidthFits w ws h))
+    none_if _ _ _ (not_outside LEAST_WIDTH GREATEST_WIDTH w here.low here.high) (widths_pass ws (All-tail WidthFits w ws h))
+
+not_false : (b : Bool) → IsTrue b → not b ≡ false
+not_false true h = refl
+not_false false h = cc
 
 pub start_passes : (p : Code) → CodeFits p → start_fault p.accumulator p.inputs ≡ None
 start_passes p fits =
     let bits = fits.accumulator in
-    let known : not (eqb p.accumulator 16 || (eqb p.accumulator 32 || eqb p.accumulator 64)) ≡ false = grind (arith, nat_tests, bits) in
+    let known : not (is_accumulator p.accumulator) ≡ false = not_false _ bits in
     none_if _ _ _ known (none_if _ _ _ (not_outside 1 4 (length p.inputs) fits.inputs_low fits.inputs_high) (widths_pass p.inputs fits.input_widths))
 
-source_passes : (n inputs : ℕ) (from : Read) (rest : Option ProgramFault) → n ≤ 40 → SourceFits n inputs from → rest ≡ None → source_fault n inputs from rest ≡ None
-source_passes n inputs (Now i) rest few h r = none_if _ _ _ (lt-leb 40 i (omega arith)) (none_if _ _ _ (lt-leb n i h) r)
-source_passes n inputs (Old i) rest few h r = none_if _ _ _ (lt-leb 40 i h) r
+source_passes : (n inputs : ℕ) (from : Read) (rest : Option ProgramFault) → n ≤ CODE_ROWS → SourceFits n inputs from → rest ≡ None → source_fault n inputs from rest ≡ None
+source_passes n inputs (Now i) rest few h r = none_if _ _ _ (lt-leb CODE_ROWS i (omega arith)) (none_if _ _ _ (lt-leb n i h) r)
+source_passes n inputs (Old i) rest few h r = none_if _ _ _ (lt-leb CODE_ROWS i h) r
 source_passes n inputs (In j) rest few h r = none_if _ _ _ (lt-leb inputs j h) r
 
 -- none of the terms reads a source of an earlier one, nor of one before it
@@ -237,28 +241,28 @@ read_once earlier (t ∷ ts) n d = (n.0, read_once (earlier ++ t ∷ []) ts (sti
 pub distinct_once : (ts : List CodeTerm) → IsDistinct (λ (e t : CodeTerm). same_source e.from t.from) ts → ReadOnce [] ts
 distinct_once ts d = read_once [] ts (all_new ts) d
 
-terms_pass : (n inputs shift : ℕ) (earlier ts : List CodeTerm) → n ≤ 40 → All (TermFits shift) ts → All (λ (t : CodeTerm). SourceFits n inputs t.from) ts → ReadOnce earlier ts → terms_fault n inputs shift earlier ts ≡ None
+terms_pass : (n inputs shift : ℕ) (earlier ts : List CodeTerm) → n ≤ CODE_ROWS → All (TermFits shift) ts → All (λ (t : CodeTerm). SourceFits n inputs t.from) ts → ReadOnce earlier ts → terms_fault n inputs shift earlier ts ≡ None
 terms_pass n inputs shift earlier [] few fits sources once = refl
 terms_pass n inputs shift earlier (t ∷ ts) few fits sources once =
     let here = All-head (TermFits shift) t ts fits in
     let source = All-head (λ (x : CodeTerm). SourceFits n inputs x.from) t ts sources in
-    let product = or_from _ _ (lt-leb (2 ^ 62) (unsigned_abs (weight t)) here.product) (lt-leb (2 ^ (24 + shift)) (unsigned_abs (weight t)) here.scaled) in
+    let product = or_from _ _ (lt-leb (2 ^ COEFFICIENT_BITS) (unsigned_abs (weight t)) here.product) (lt-leb (2 ^ (PRODUCT_BITS + shift)) (unsigned_abs (weight t)) here.scaled) in
     let first : term_fault n inputs shift earlier t ≡ None =
-    none_if _ _ _ (le-ltb 62 t.left here.left) (
-    none_if _ _ _ (lt-leb (2 ^ 62) (unsigned_abs t.coef) here.coefficient) (
+    none_if _ _ _ (le-ltb LONGEST_SHIFT t.left here.left) (
+    none_if _ _ _ (lt-leb (2 ^ COEFFICIENT_BITS) (unsigned_abs t.coef) here.coefficient) (
     source_passes n inputs t.from _ few source (
     none_if _ _ _ once.0 (
     none_if _ _ _ product refl)))) in
     rw first (terms_pass n inputs shift (earlier ++ t ∷ []) ts few (All-tail (TermFits shift) t ts fits) (All-tail (λ (x : CodeTerm). SourceFits n inputs x.from) t ts sources) once.1)
 
-pub row_passes : (p : Code) (row : Row) → length p.rows < 40 → 16 ≤ p.accumulator → RowFits p.accumulator row → ReadsFit (length p.rows) (length p.inputs) row → term_count p.rows + length row.terms ≤ 624 → row_fault p row ≡ None
+pub row_passes : (p : Code) (row : Row) → length p.rows < CODE_ROWS → 16 ≤ p.accumulator → RowFits p.accumulator row → ReadsFit (length p.rows) (length p.inputs) row → term_count p.rows + length row.terms ≤ CODE_TERMS → row_fault p row ≡ None
 row_passes p row few wide fits reads terms =
     let n = length p.rows in
-    none_if _ _ _ (le-ltb 40 (n + 1) (omega arith)) (
-    none_if _ _ _ (not_outside 2 (min 32 p.accumulator) row.width fits.width_low (omega (arith, fits.width_high, fits.width_kept))) (
-    none_if _ _ _ (le-ltb (min 62 (p.accumulator - 1)) row.shift (omega (arith, fits.shift_high, fits.shift_kept))) (
+    none_if _ _ _ (le-ltb CODE_ROWS (n + 1) (omega arith)) (
+    none_if _ _ _ (not_outside LEAST_WIDTH (min GREATEST_WIDTH p.accumulator) row.width fits.width.low (omega (arith, fits.width.high, fits.width_kept))) (
+    none_if _ _ _ (le-ltb (min LONGEST_SHIFT (p.accumulator - 1)) row.shift (omega (arith, fits.shift_high, fits.shift_kept))) (
     rw (terms_pass n (length p.inputs) row.shift [] row.terms (omega arith) fits.terms reads.sources (distinct_once row.terms reads.once)) (
-    none_if _ _ _ (le-ltb 624 _ terms) refl))))
+    none_if _ _ _ (le-ltb CODE_TERMS _ terms) refl))))
 
 pub output_passes : (p : Code) (i : ℕ) → length p.outputs < 4 → i < length p.rows → output_fault p i ≡ None
 output_passes p i few below = none_if _ _ _ (le-ltb 4 (length p.outputs + 1) (omega arith)) (none_if _ _ _ (lt-leb (length p.rows) i below) refl)

@@ -6,6 +6,7 @@ use Rattle.fx_code.specs.Code.{Row, Code, row_at}
 use Rattle.fx_code.specs.Fits.{RowFits}
 use Rattle.fx_code.specs.Inside.{row_of, code_of, IsKept}
 use Rattle.fx_code.specs.Limits.{term_count, row_fault}
+use Rattle.fx_code.specs.declared.limits.TheConstants.{CODE_TERMS}
 use Rattle.fx_code.specs.declared.program.Program.TheInside.{Inside}
 use Rattle.fx_code.specs.declared.program.ProgramRow.{ProgramRow}
 use Rattle.fx_code.specs.declared.term.CodeTerm.{CodeTerm}
@@ -15,7 +16,7 @@ use Rattle.fx_code.proofs.Fitting.{row_added}
 pub record IsRow (p : Code) (i : ℕ) (r : ProgramRow) : Type 0 where
   pub value : row_of r ≡ row_at p i
   pub fits : RowFits p.accumulator (row_of r)
-  pub few : length r.terms.items ≤ 624
+  pub few : length r.terms.items ≤ CODE_TERMS
 
 pub row_read : (a : Inside) (p : Code) → code_of a ≡ p → IsKept a → (i : ℕ) → i < length p.rows → (r : ProgramRow) → r ≡ slice_index_or a.rows.items i r → IsRow p i r
 row_read a p same kept i h r e =

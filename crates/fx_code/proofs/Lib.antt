@@ -1,16 +1,9 @@
-mod Adding
-mod Bits
 mod FirstFault
 pub mod Fitting
-mod Following
 mod Kept
-mod LaterInputs
-mod Marking
+pub mod LaterInputs
 mod NetRun
 mod NetTerms
 mod Placing
-mod Reaching
-mod Running
-mod Stepping
 mod Whole
 pub mod Words

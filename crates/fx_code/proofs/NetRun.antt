@@ -3,48 +3,58 @@ use Rattle.std.proofs.Common.{◌≡◌, ℕ, zero, suc, ◌+◌, ◌-◌, ◌*�
 use Rattle.std.proofs.Math.IntN.{ℤ, pos, ◌+ℤ◌, ◌-ℤ◌, ◌*ℤ◌, neg_ℤ}
 use Rattle.std.specs.Prelude.{unsigned_abs}
 use Rattle.std.proofs.lemmas.Int.{ints, unsigned_abs-mul}
-use Rattle.std.proofs.lemmas.Bool.{cases_lt, ne_eqb}
+use Rattle.std.proofs.lemmas.Bool.{ne_eqb, cond-false}
 use Rattle.std.proofs.lemmas.List.{get_or-map, length-map}
 use Rattle.std.proofs.lemmas.Nat.{pow_pos}
 use Rattle.std.proofs.Math.Nat.{mul-le-mul_right, pow-succ', le_of_mul-le-mul_left}
 use Rattle.fx_math.specs.Division.{floor_div}
-use Rattle.fx_math.specs.Unroll.{fill, last, so_far}
+use Rattle.fx_math.specs.Laws.{UnrolledIsItsStep}
+use Rattle.fx_math.specs.Residue.{wrap}
+use Rattle.fx_math.specs.Unroll.{before, last, so_far}
+use Rattle.fx_math.proofs.Unroll.{fill_kept, last_is_before}
 use Rattle.fx_math.proofs.Division.{floor_below, floor_above}
 use Rattle.fx_math.proofs.Ring.{mul-add, mul_comm, mul_assoc, mul-neg, add-mul, neg-mul}
 use Rattle.fx_nums.specs.Fraction.{over, IsWholeOver}
 use Rattle.fx_net.specs.Net.{Net}
 use Rattle.fx_net.specs.Rows.{reads_now, reads_old, reads_input, coefficient, row_of}
 use Rattle.fx_mat.specs.Entries.{zero_fraction}
-use Rattle.fx_net.specs.Run.{IsDenominator, before, row_time, row_sum}
+use Rattle.fx_net.specs.Run.{IsDenominator, row_time, row_sum}
 use Rattle.fx_net.proofs.Carried.{of_now, of_old, of_input, right, gather, one_power, powers_to}
 use Rattle.fx_net.proofs.Coefficients.{value_at, net_sum}
-use Rattle.fx_code.specs.Code.{Code, row_at, constant_of, weight, OldIsThere, IsWhole}
+use Rattle.fx_code.specs.Code.{Code, row_at, bare, half_place, constant_of, weight, OldIsThere, IsWhole}
 use Rattle.fx_code.specs.Fits.{SourceFits, CodeFits}
-use Rattle.fx_code.specs.Laws.{ExactWords, HasNumbers, IsWithinHalves, IsFloored, FlooredRowsRun, WordsRun}
-use Rattle.fx_code.specs.NetRows.{net_read, net_row, rows_of, class_of, HoldsCode}
+use Rattle.fx_code.specs.Laws.{ExactWords, HasNumbers, IsWithinHalves, IsFloored, FlooredRowsRun, WordsAreTheirStep, WordsRun}
+use Rattle.fx_code.specs.NetRows.{net_read, net_row, class_of, bare_rows, HoldsCode}
 use Rattle.fx_code.specs.Run.{word_read, terms_sum, whole_sum, word_step, words, sum_at}
 use Rattle.fx_code.specs.declared.term.CodeTerm.{CodeTerm}
 use Rattle.fx_code.specs.declared.term.Read.{Read}
 use Rattle.fx_code.specs.declared.term.Read.TheVariants.{Now, Old, In}
 use Rattle.fx_net.proofs.Terms.{HasTerms, as_terms, AllWhole, whole_terms}
 use Rattle.fx_code.proofs.NetTerms.{kept, kept_term, coefficient_kept, are_once, all_fit, kept_over}
-use Rattle.fx_code.proofs.Placing.{read_fits}
+use Rattle.fx_code.proofs.Placing.{bare_is, read_fits}
 
 -- ---- rounding
 
--- 2 ^ r times the floor, against the sum
-rounding : (r : ℕ) (a : ℤ) → 2 * unsigned_abs (pos (2 ^ r) *ℤ floor_div (pos (constant_of r) +ℤ a) (2 ^ r) -ℤ a) ≤ class_of r * 2 ^ r
-rounding zero a =
-    let low = floor_below (pos 0 +ℤ a) 1 (omega arith) in
-    let high = floor_above (pos 0 +ℤ a) 1 (omega arith) in
-    omega (arith, ints)
-rounding (suc r) a =
+within_half : (r : ℕ) (a : ℤ) → 2 * unsigned_abs (pos (2 ^ suc r) *ℤ floor_div (pos (2 ^ r) +ℤ a) (2 ^ suc r) -ℤ a) ≤ 1 * 2 ^ suc r
+within_half r a =
     let y : ℤ = floor_div (pos (2 ^ r) +ℤ a) (2 ^ suc r) in
     let low = floor_below (pos (2 ^ r) +ℤ a) (2 ^ suc r) (pow_pos (suc r)) in
     let high = floor_above (pos (2 ^ r) +ℤ a) (2 ^ suc r) (pow_pos (suc r)) in
     let e : 2 ^ suc r ≡ 2 * 2 ^ r = pow-succ' 2 r in
     let turned : pos (2 ^ suc r) *ℤ y ≡ y *ℤ pos (2 ^ suc r) = mul_comm (pos (2 ^ suc r)) y in
     omega (arith, ints)
+
+-- 2 ^ r times the floor, against the sum
+rounding : (r : ℕ) (ts : List CodeTerm) (a : ℤ) →
+    2 * unsigned_abs (pos (2 ^ r) *ℤ floor_div (pos (half_place r) +ℤ a) (2 ^ r) -ℤ a) ≤ class_of (record { shift = r; terms = ts }) * 2 ^ r
+rounding zero ts a =
+    let low = floor_below (pos 0 +ℤ a) 1 (omega arith) in
+    let high = floor_above (pos 0 +ℤ a) 1 (omega arith) in
+    omega (arith, ints)
+rounding (suc r) ts a =
+    let shifted : eqb (suc r) 0 ≡ false = ne_eqb (suc r) 0 (λ e. omega arith) in
+    let one : class_of (record { shift = suc r; terms = ts }) ≡ 1 = cond-false _ _ _ shifted in
+    subst (λ n. 2 * unsigned_abs (pos (2 ^ suc r) *ℤ floor_div (pos (2 ^ r) +ℤ a) (2 ^ suc r) -ℤ a) ≤ n * 2 ^ suc r) (sym one) (within_half r a)
 
 -- z is y g, and d t is s g, with d y near s: so z is near t
 near : (d e g : ℕ) (z t y s : ℤ) → 0 < d → z ≡ y *ℤ pos g → pos d *ℤ t ≡ s *ℤ pos g → 2 * unsigned_abs (pos d *ℤ y -ℤ s) ≤ e * d →
@@ -70,7 +80,7 @@ term_scaled q shift g t x w whole e =
 module _ (p : Code) (net : Net) (at q : ℕ) (u y z : ℕ → ℕ → ℤ)
     (fits : CodeFits p) (whole : IsWhole p) (holds : HoldsCode net at p) (den : IsDenominator net q) (has : HasNumbers p net at q y z) where
   room : at + length p.rows ≤ net.rows
-  room = let inside = holds.rows.inside in let count = length-map p.rows net_row in omega arith
+  room = let inside = holds.rows.inside in let count : length (map net_row (bare_rows p)) ≡ length p.rows = length-map (bare_rows p) net_row ∙ length-map p.rows bare in omega arith
 
   -- what reads a source of row i, over the row's denominator
   value_is : (k i : ℕ) (from : Read) → i < length p.rows → SourceFits i (length p.inputs) from → OldIsThere (length p.rows) from →
@@ -111,15 +121,20 @@ module _ (p : Code) (net : Net) (at q : ℕ) (u y z : ℕ → ℕ → ℤ)
 
   -- ---- a row
 
-  row_is : (i : ℕ) → i < length p.rows → row_of (rows_of p) i ≡ net_row (row_at p i)
+  count_is : length (map net_row (bare_rows p)) ≡ length p.rows
+  count_is = length-map (bare_rows p) net_row ∙ length-map p.rows bare
+
+  row_is : (i : ℕ) → i < length p.rows → row_of (map net_row (bare_rows p)) i ≡ net_row (bare (row_at p i))
   unfolding row_of
-  row_is i row = get_or-map net_row p.rows i _ _ row
+  row_is i row =
+      get_or-map net_row (bare_rows p) i (record { shift = 0; terms = [] }) _ (rw (length-map p.rows bare) row)
+      ∙ ap net_row (bare_is p.rows i)
 
   has_terms : (i : ℕ) → i < length p.rows → HasTerms net at i (map (kept_term (row_at p i).shift) (row_at p i).terms)
   has_terms i row =
       let shift : ℕ = (row_at p i).shift in
       let ts : List CodeTerm = (row_at p i).terms in
-      let below : i < length (rows_of p) = rw (length-map p.rows net_row) row in
+      let below : i < length (map net_row (bare_rows p)) = rw count_is row in
       record {
         inside = let a = room in omega arith;
         once = are_once shift ts (fits.reads i row).once;
@@ -141,25 +156,16 @@ module _ (p : Code) (net : Net) (at q : ℕ) (u y z : ℕ → ℕ → ℤ)
   row_near k i row floored =
       let shift : ℕ = (row_at p i).shift in
       let s : ℤ = terms_sum (y k) (before y k) (u k) (row_at p i).terms in
-      let number : z k (at + i) ≡ floor_div (pos (constant_of shift) +ℤ s) (2 ^ shift) *ℤ pos (q ^ (row_time net k (at + i) + 1)) =
+      let number : z k (at + i) ≡ floor_div (pos (half_place shift) +ℤ s) (2 ^ shift) *ℤ pos (q ^ (row_time net k (at + i) + 1)) =
       has k i row ∙ ap (λ x. x *ℤ pos (q ^ (row_time net k (at + i) + 1))) floored in
-      subst (λ n. 2 * unsigned_abs (z k (at + i) -ℤ row_sum net q u z k (at + i)) ≤ n * q ^ (row_time net k (at + i) + 1)) (sym (holds.classes i row))
-      (near (2 ^ shift) (class_of shift) (q ^ (row_time net k (at + i) + 1)) (z k (at + i)) (row_sum net q u z k (at + i)) (floor_div (pos (constant_of shift) +ℤ s) (2 ^ shift)) s
-      (pow_pos shift) number (row_scaled k i row) (rounding shift s))
+      subst (λ n. 2 * unsigned_abs (z k (at + i) -ℤ row_sum net q u z k (at + i)) ≤ n * q ^ (row_time net k (at + i) + 1)) (sym (holds.classes i (rw (length-map p.rows bare) row) ∙ ap class_of (bare_is p.rows i)))
+      (near (2 ^ shift) (class_of (bare (row_at p i))) (q ^ (row_time net k (at + i) + 1)) (z k (at + i)) (row_sum net q u z k (at + i)) (floor_div (pos (half_place shift) +ℤ s) (2 ^ shift)) s
+      (pow_pos shift) number (row_scaled k i row) (rounding shift (row_at p i).terms s))
 
 pub floored_rows : (p : Code) → CodeFits p → FlooredRowsRun p
 floored_rows p fits net at q u y z whole holds den has k i row floored = row_near p net at q u y z fits whole holds den has k i row floored
 
 -- ---- words
-
--- a row that is filled stays
-fill_stays : (f : ℕ → (ℕ → ℤ) → ℤ) (n i j : ℕ) → i ≤ n → j < i → fill f n j ≡ fill f i j
-fill_stays f zero i j h l = absurd (omega arith)
-fill_stays f (suc n) i j h l =
-    elim (cases_lt n i) [
-      | inl above ↦ (let e : suc n ≡ i = omega arith in ap (λ m. fill f m j) e)
-      | inr upto ↦ (let ne : eqb j n ≡ false = ne_eqb j n (λ e. omega arith) in rw ne (fill_stays f n i j upto l))
-    ]
 
 same_terms : (i inputs : ℕ) (now now' old old' input : ℕ → ℤ) (ts : List CodeTerm) → ((n : ℕ) (d : CodeTerm) → n < length ts → SourceFits i inputs (get_or ts n d).from) →
     ((j : ℕ) → j < i → now j ≡ now' j) → ((j : ℕ) → old j ≡ old' j) → terms_sum now old input ts ≡ terms_sum now' old' input ts
@@ -172,15 +178,21 @@ same_terms i inputs now now' old old' input (t ∷ ts) sources hn ho =
     same_read (Old j) h = ho j
     same_read (In j) h = refl
 
-last_is : (p : Code) (u : ℕ → ℕ → ℤ) (k j : ℕ) → last (length p.rows) (word_step p u) k j ≡ before (words p u) k j
-last_is p u zero j = refl
-last_is p u (suc k) j = refl
+-- each word is its row's step of the finished moment
+pub word_steps : (p : Code) → CodeFits p → UnrolledIsItsStep → WordsAreTheirStep p
+word_steps p fits law u k i row =
+    law (length p.rows) (word_step p u)
+    (λ k i now later old h same.
+    ap (λ s. wrap (row_at p i).width (floor_div (wrap p.accumulator (pos (constant_of (bare (row_at p i))) +ℤ s)) (2 ^ (row_at p i).shift)))
+    (same_terms i (length p.inputs) now later old old (u k) (row_at p i).terms (fits.reads i h).sources same (λ j. refl)))
+    k i row
 
 sum_is : (p : Code) (u : ℕ → ℕ → ℤ) (k i : ℕ) → CodeFits p → i < length p.rows → sum_at p u k i ≡ whole_sum (row_at p i) (words p u k) (before (words p u) k) (u k)
 sum_is p u k i fits row =
-    ap (λ x. pos (constant_of (row_at p i).shift) +ℤ x)
+    ap (λ x. pos (constant_of (bare (row_at p i))) +ℤ x)
     (same_terms i (length p.inputs) (so_far (length p.rows) (word_step p u) k i) (words p u k) (last (length p.rows) (word_step p u) k) (before (words p u) k) (u k) (row_at p i).terms (fits.reads i row).sources
-    (λ j l. sym (fill_stays (λ i now. word_step p u k i now (last (length p.rows) (word_step p u) k)) (length p.rows) i j (omega arith) l)) (last_is p u k))
+    (λ j l. fill_kept (λ i now. word_step p u k i now (last (length p.rows) (word_step p u) k)) (length p.rows) i j l (omega arith))
+    (λ j. ap (λ (f : ℕ → ℤ). f j) (last_is_before (length p.rows) (word_step p u) k)))
 
 pub words_run : (p : Code) → CodeFits p → ExactWords p → WordsRun p
 words_run p fits floors net at q u z whole holds den has k i row exact =

@@ -1,5 +1,5 @@
 -- The rows of a program in a net: what they read is there, and their terms and classes make the whole.
-use Rattle.std.proofs.Common.{◌≡◌, ℕ, ◌+◌, ◌-◌, ◌*◌, ◌^◌, ◌<◌, ◌≤◌, cond, Bool, true, false, ℤ, unsigned_abs, List, length, get_or, arith, refl, ap, ◌∙◌}
+use Rattle.std.proofs.Common.{◌≡◌, ℕ, zero, suc, ◌+◌, ◌-◌, ◌*◌, ◌^◌, ◌<◌, ◌≤◌, cond, Bool, true, false, ℤ, unsigned_abs, List, [], ◌∷◌, length, map, get_or, slice_index_or, arith, refl, ap, sym, ◌∙◌}
 use mathlib.Core.Path.{fun_ext}
 use Rattle.std.proofs.lemmas.Bool.{cond-true, cond-false, and_from, le-leb, lt-ltb}
 use Rattle.std.proofs.lemmas.List.{length-map}
@@ -10,17 +10,18 @@ use Rattle.fx_net.specs.Laws.{RowsStand}
 use Rattle.fx_net.specs.Net.{Net}
 use Rattle.fx_net.specs.Rows.{ReadFits, is_within, put_each, put_rows, AreEmpty, HoldsRows}
 use Rattle.fx_net.proofs.Filling.{filled}
-use Rattle.fx_code.specs.Code.{Code, row_at, weight, OldIsThere, IsWhole}
+use Rattle.fx_code.specs.Code.{BareRow, Row, Code, row_at, bare, weight, OldIsThere, IsWhole}
 use Rattle.fx_code.specs.Fits.{TermFits, SourceFits, CodeFits}
-use Rattle.fx_code.specs.Laws.{CodeStands}
-use Rattle.fx_code.specs.NetRows.{net_read, net_row, rows_of, class_of, put_classes, put_code}
+use Rattle.fx_code.specs.Laws.{BareRowsStand, CodeStands}
+use Rattle.fx_code.specs.NetRows.{net_read, net_row, class_of, bare_at, classes_of, put_classes, put_bare_rows, bare_rows, put_code}
+use Rattle.fx_code.specs.declared.limits.TheConstants.{LONGEST_SHIFT}
 use Rattle.fx_code.specs.declared.term.CodeTerm.{CodeTerm}
 use Rattle.fx_code.specs.declared.term.Read.{Read}
 use Rattle.fx_code.specs.declared.term.Read.TheVariants.{Now, Old, In}
 
 -- ---- a term
 
-pub fraction_fits : (t : CodeTerm) (shift : ℕ) (w : ℤ) → w ≡ weight t → shift ≤ 62 → TermFits shift t → FractionFits w (Two shift)
+pub fraction_fits : (t : CodeTerm) (shift : ℕ) (w : ℤ) → w ≡ weight t → shift ≤ LONGEST_SHIFT → TermFits shift t → FractionFits w (Two shift)
 fraction_fits t shift w e h f =
     let scaled : unsigned_abs (weight t) < 2 ^ 24 * 2 ^ shift = omega (arith, f.scaled, pow-add 2 24 shift) in
     rw e (record { den_fits = h; num_fits = f.product; value_fits = scaled })
@@ -41,28 +42,44 @@ read_fits p n at i k ts d fits whole room row same h =
 
 -- ---- the whole net
 
+-- each row without its width, those past the rows too
+pub bare_is : (rows : List Row) (i : ℕ) → bare_at (map bare rows) i ≡ bare (slice_index_or rows i (record { width = 0; shift = 0; terms = [] }))
+bare_is [] i = refl
+bare_is (row ∷ rows) zero = refl
+bare_is (row ∷ rows) (suc i) = bare_is rows i
+
 -- rows that are put leave the classes of a net whose rows were empty, and its other rows
-pub code_put : (p : Code) (at : ℕ) (net put : Net) → put ≡ put_each at 0 (rows_of p) net → AreEmpty at (length p.rows) net →
-    record put { halves = put_classes p at (length p.rows) put.halves } ≡ put_code p at net
+rows_put : (rows : List BareRow) (at count : ℕ) (net put : Net) → count ≡ length rows → put ≡ put_each at 0 (map net_row rows) net → AreEmpty at count net →
+    record put { halves = put_classes (classes_of rows) at count put.halves } ≡ put_bare_rows rows at net
 unfolding put_rows
-code_put p at net put e empty =
-    let count : length (rows_of p) ≡ length p.rows = length-map p.rows net_row in
-    let rows : put ≡ put_rows (rows_of p) at net = e ∙ filled at (rows_of p) net (rw count empty) in
-    ap (λ (n : Net). record n { halves = put_classes p at (length p.rows) n.halves }) rows
-    ∙ ap (λ h. record (put_rows (rows_of p) at net) { halves = h }) (fun_ext (λ i. by_test i (is_within at (length p.rows) i) (ap (λ n. is_within at n i) count)))
+rows_put rows at count net put same e empty =
+    let long : length (map net_row rows) ≡ count = length-map rows net_row ∙ sym same in
+    let here : put ≡ put_rows (map net_row rows) at net = e ∙ filled at (map net_row rows) net (rw long empty) in
+    ap (λ (n : Net). record n { halves = put_classes (classes_of rows) at count n.halves }) here
+    ∙ ap (λ h. record (put_rows (map net_row rows) at net) { halves = h })
+    (fun_ext (λ i. by_test i (is_within at count i) (ap (λ n. is_within at n i) long)) ∙ ap (λ n. put_classes (classes_of rows) at n net.halves) same)
   where
-    by_test : (i : ℕ) (b : Bool) → is_within at (length (rows_of p)) i ≡ b → cond b (class_of (row_at p (i - at)).shift) (cond (is_within at (length (rows_of p)) i) 0 (net.halves i)) ≡ cond b (class_of (row_at p (i - at)).shift) (net.halves i)
+    by_test : (i : ℕ) (b : Bool) → is_within at (length (map net_row rows)) i ≡ b → cond b (class_of (bare_at rows (i - at))) (cond (is_within at (length (map net_row rows)) i) 0 (net.halves i)) ≡ cond b (class_of (bare_at rows (i - at))) (net.halves i)
     by_test i true e = refl
     by_test i false e = cond-false _ _ _ e
 
-pub code_stands : RowsStand → CodeStands
+pub code_put : (p : Code) (at : ℕ) (net put : Net) → put ≡ put_each at 0 (map net_row (bare_rows p)) net → AreEmpty at (length p.rows) net →
+    record put { halves = put_classes (λ r. class_of (bare (row_at p r))) at (length p.rows) put.halves } ≡ put_code p at net
+code_put p at net put e empty =
+    ap (λ (classes : ℕ → ℕ). record put { halves = put_classes classes at (length p.rows) put.halves }) (fun_ext (λ r. ap class_of (sym (bare_is p.rows r))))
+    ∙ rows_put (bare_rows p) at (length p.rows) net put (sym (length-map p.rows bare)) e empty
+
+pub bare_rows_stand : RowsStand → BareRowsStand
 unfolding put_rows
-code_stands stand p at net room =
-    let count : length (rows_of p) ≡ length p.rows = length-map p.rows net_row in
-    let rows : HoldsRows (put_rows (rows_of p) at net) at (rows_of p) = stand (rows_of p) at net (rw count room) in
+bare_rows_stand stand bare at net room =
+    let count : length (map net_row bare) ≡ length bare = length-map bare net_row in
+    let rows : HoldsRows (put_rows (map net_row bare) at net) at (map net_row bare) = stand (map net_row bare) at net (rw count room) in
     record {
       rows = record { inside = rows.inside; now = rows.now; old = rows.old; input = rows.input };
       classes = λ i h.
-          cond-true _ _ _ (and_from _ _ (le-leb at (at + i) (omega arith)) (lt-ltb (at + i) (at + length p.rows) (omega arith)))
-          ∙ ap (λ n. class_of (row_at p n).shift) (let e : at + i - at ≡ i = omega arith in e);
+          cond-true _ _ _ (and_from _ _ (le-leb at (at + i) (omega arith)) (lt-ltb (at + i) (at + length bare) (omega arith)))
+          ∙ ap (λ n. class_of (bare_at bare n)) (let e : at + i - at ≡ i = omega arith in e);
     }
+
+pub code_stands : RowsStand → CodeStands
+code_stands stand p at net room = bare_rows_stand stand (bare_rows p) at net (rw (length-map p.rows bare) room)

@@ -4,6 +4,11 @@ use Rattle.fx_code.specs.declared.term.CodeTerm.{CodeTerm}
 use Rattle.fx_code.specs.declared.term.Read.{Read}
 use Rattle.fx_code.specs.declared.term.Read.TheVariants.{Now, Old, In}
 
+-- a row whose width is still open: the right shift of its sum, and its terms in their order
+pub record BareRow : Type 0 where
+  pub shift : ℕ
+  pub terms : List CodeTerm
+
 -- a row: the bits of its stored word, the right shift of its sum, and its terms in their order
 pub record Row : Type 0 where
   pub width : ℕ
@@ -21,10 +26,18 @@ pub record Code : Type 0 where
 abbrev pub row_at : Code → ℕ → Row
 row_at p i = slice_index_or p.rows i (record { width = 0; shift = 0; terms = [] })
 
--- what a row's accumulator begins with: half of the last place that the shift drops
-abbrev pub constant_of : ℕ → ℕ
-constant_of zero = 0
-constant_of (suc r) = 2 ^ r
+-- a row without its width
+abbrev pub bare : Row → BareRow
+bare row = record { shift = row.shift; terms = row.terms }
+
+-- half of the last place that a right shift drops
+abbrev pub half_place : ℕ → ℕ
+half_place zero = 0
+half_place (suc r) = 2 ^ r
+
+-- what a row's accumulator begins with
+abbrev pub constant_of : BareRow → ℕ
+constant_of row = half_place row.shift
 
 -- a coefficient shifted to the left
 abbrev pub weight : CodeTerm → ℤ

@@ -1,19 +1,24 @@
 -- What the laws of this crate say.
 use Rattle.std.specs.Prelude.{◌≡◌, ℕ, ◌+◌, ◌*◌, ◌^◌, ◌<◌, ◌≤◌, None, ℤ, pos, ◌-ℤ◌, ◌*ℤ◌, unsigned_abs, List, ◌++◌, length, slice_index_or}
 use Rattle.fx_math.specs.Division.{floor_div}
+use Rattle.fx_math.specs.Unroll.{before}
 use Rattle.fx_net.specs.Net.{Net}
-use Rattle.fx_net.specs.Run.{IsDenominator, before, row_sum, row_time}
-use Rattle.fx_code.specs.Code.{Row, Code, row_at, IsWhole}
+use Rattle.fx_net.specs.Run.{IsDenominator, row_sum, row_time}
+use Rattle.fx_code.specs.Code.{BareRow, Row, Code, row_at, IsWhole}
 use Rattle.fx_code.specs.Fits.{RowFits, ReadsFit, CodeFits}
 use Rattle.fx_code.specs.Inputs.{word_at}
+use Rattle.fx_code.specs.declared.limits.TheConstants.{CODE_ROWS, CODE_TERMS}
 use Rattle.fx_code.specs.Limits.{term_count, start_fault, row_fault, output_fault}
-use Rattle.fx_code.specs.Moments.{outputs_at}
-use Rattle.fx_code.specs.NetRows.{put_code, HoldsCode}
-use Rattle.fx_code.specs.Run.{whole_sum, words, output_word, sum_at, IsExact}
+use Rattle.fx_code.specs.NetRows.{put_bare_rows, HoldsBareRows, put_code, HoldsCode}
+use Rattle.fx_code.specs.Run.{whole_sum, word_step, words, output_word, outputs_at, sum_at, IsExact}
 
 -- the word of an exact row is its whole-number sum, floored by the shift
 abbrev pub ExactWords : Code → Type 0
 ExactWords p = (u : ℕ → ℕ → ℤ) (k i : ℕ) → i < length p.rows → IsExact p u k i → words p u k i ≡ floor_div (sum_at p u k i) (2 ^ (row_at p i).shift)
+
+-- the words of a moment are the step of the finished moment and of the one before
+abbrev pub WordsAreTheirStep : Code → Type 0
+WordsAreTheirStep p = (u : ℕ → ℕ → ℤ) (k i : ℕ) → i < length p.rows → words p u k i ≡ word_step p u k i (words p u k) (before (words p u) k)
 
 -- words at a moment read inputs up to that moment alone
 abbrev pub EarlierInputs : Type 0
@@ -25,7 +30,11 @@ OutputsInOrder = (p : Code) (u : ℕ → ℕ → ℤ) (k o : ℕ) → o < length
 
 -- ---- a program in a net
 
--- a program that is put stands there
+-- rows that are put stand there
+abbrev pub BareRowsStand : Type 0
+BareRowsStand = (rows : List BareRow) (at : ℕ) (net : Net) → at + length rows ≤ net.rows → HoldsBareRows (put_bare_rows rows at net) at rows
+
+-- so do the rows of a program
 abbrev pub CodeStands : Type 0
 CodeStands = (p : Code) (at : ℕ) (net : Net) → at + length p.rows ≤ net.rows → HoldsCode (put_code p at net) at p
 
@@ -66,7 +75,7 @@ FittingStarts = (p : Code) → CodeFits p → start_fault p.accumulator p.inputs
 abbrev pub FittingRows : Type 0
 FittingRows =
     (p : Code) (row : Row) →
-    length p.rows < 40 → 16 ≤ p.accumulator → RowFits p.accumulator row → ReadsFit (length p.rows) (length p.inputs) row → term_count p.rows + length row.terms ≤ 624 →
+    length p.rows < CODE_ROWS → 16 ≤ p.accumulator → RowFits p.accumulator row → ReadsFit (length p.rows) (length p.inputs) row → term_count p.rows + length row.terms ≤ CODE_TERMS →
     row_fault p row ≡ None
 
 -- nor has an output that is a row

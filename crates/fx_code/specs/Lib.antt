@@ -4,9 +4,5 @@ pub mod Inputs
 pub mod Inside
 pub mod Laws
 pub mod Limits
-pub mod Marks
-pub mod Moments
 pub mod NetRows
-pub mod Prepared
 pub mod Run
-pub mod Standing

@@ -1,11 +1,11 @@
 -- The rows of a program in a net, where what a row stores is its value.
-use Rattle.std.specs.Prelude.{◌≡◌, ℕ, zero, suc, ◌+◌, ◌-◌, ◌<◌, cond, List, map, length}
+use Rattle.std.specs.Prelude.{◌≡◌, ℕ, ◌+◌, ◌-◌, ◌<◌, ◌==◌, cond, List, [], map, length, slice_index_or}
 use Rattle.fx_nums.specs.declared.fraction.Den.TheVariants.{Two}
 use Rattle.fx_eqs.specs.Expanded.{NetRead, NetTerm}
 use Rattle.fx_eqs.specs.Expanded.NetRead.{Now as NowRow, Old as OldRow, In as Input}
 use Rattle.fx_net.specs.Net.{Net}
 use Rattle.fx_net.specs.Rows.{is_within, put_rows, HoldsRows}
-use Rattle.fx_code.specs.Code.{Row, Code, row_at, weight}
+use Rattle.fx_code.specs.Code.{BareRow, Code, bare, weight}
 use Rattle.fx_code.specs.declared.term.CodeTerm.{CodeTerm}
 use Rattle.fx_code.specs.declared.term.Read.{Read}
 use Rattle.fx_code.specs.declared.term.Read.TheVariants.{Now, Old, In}
@@ -20,27 +20,46 @@ net_read (In j) = Input j
 abbrev pub net_term : ℕ → CodeTerm → NetTerm
 net_term shift t = record { coef = record { num = weight t; den = Two shift }; from = net_read t.from }
 
-abbrev pub net_row : Row → List NetTerm
+abbrev pub net_row : BareRow → List NetTerm
 net_row row = map (net_term row.shift) row.terms
 
--- the rows in their order, each a list of its terms
-abbrev pub rows_of : Code → List (List NetTerm)
-rows_of p = map net_row p.rows
+-- how many half steps the perturbation of a row may have: none where nothing is shifted away
+abbrev pub class_of : BareRow → ℕ
+class_of row = cond (row.shift == 0) 0 1
 
--- how many half steps a row with this right shift may be off
-abbrev pub class_of : ℕ → ℕ
-class_of zero = 0
-class_of (suc r) = 1
+-- ---- rows whose widths are still open
 
--- the half steps of all rows, with those of the first n rows of the program from a place on
-abbrev pub put_classes : Code → ℕ → ℕ → (ℕ → ℕ) → ℕ → ℕ
-put_classes p at n halves i = cond (is_within at n i) (class_of (row_at p (i - at)).shift) (halves i)
+-- the row at a place; past the rows one without terms
+abbrev pub bare_at : List BareRow → ℕ → BareRow
+bare_at rows i = slice_index_or rows i (record { shift = 0; terms = [] })
 
--- the net with the rows of the program from a place on, each with its class
-abbrev pub put_code : Code → ℕ → Net → Net
-put_code p at net = record (put_rows (rows_of p) at net) { halves = put_classes p at (length p.rows) net.halves }
+-- the half steps of each of these rows
+abbrev pub classes_of : List BareRow → ℕ → ℕ
+classes_of rows i = class_of (bare_at rows i)
+
+-- the half steps of all rows of a net, with those of so many rows put from a place on
+abbrev pub put_classes : (ℕ → ℕ) → ℕ → ℕ → (ℕ → ℕ) → ℕ → ℕ
+put_classes put at count halves i = cond (is_within at count i) (put (i - at)) (halves i)
+
+-- the net with these rows from a place on, each with its class; its other rows stay
+abbrev pub put_bare_rows : List BareRow → ℕ → Net → Net
+put_bare_rows rows at net = record (put_rows (map net_row rows) at net) { halves = put_classes (classes_of rows) at (length rows) net.halves }
 
 -- the net has these rows from a place on, each with its class
-pub record HoldsCode (net : Net) (at : ℕ) (p : Code) : Type 0 where
-  pub rows : HoldsRows net at (rows_of p)
-  pub classes : (i : ℕ) → i < length p.rows → net.halves (at + i) ≡ class_of (row_at p i).shift
+pub record HoldsBareRows (net : Net) (at : ℕ) (bare : List BareRow) : Type 0 where
+  pub rows : HoldsRows net at (map net_row bare)
+  pub classes : (i : ℕ) → i < length bare → net.halves (at + i) ≡ class_of (bare_at bare i)
+
+-- ---- programs
+
+-- the rows of a program without their widths
+abbrev pub bare_rows : Code → List BareRow
+bare_rows p = map bare p.rows
+
+-- the net with the rows of the program from a place on
+abbrev pub put_code : Code → ℕ → Net → Net
+put_code p at net = put_bare_rows (bare_rows p) at net
+
+-- the net has the rows of the program from a place on
+abbrev pub HoldsCode : Net → ℕ → Code → Type 0
+HoldsCode net at p = HoldsBareRows net at (bare_rows p)

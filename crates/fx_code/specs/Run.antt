@@ -1,9 +1,9 @@
 -- What a program's words are, and when a row is exact. Inputs are a function of moment and input.
-use Rattle.std.specs.Prelude.{◌≡◌, ℕ, ◌^◌, ℤ, pos, ◌+ℤ◌, ◌*ℤ◌, List, [], ◌∷◌, length, slice_index}
+use Rattle.std.specs.Prelude.{◌≡◌, ℕ, ◌^◌, ℤ, pos, ◌+ℤ◌, ◌*ℤ◌, List, [], ◌∷◌, map, length, slice_index}
 use Rattle.fx_math.specs.Division.{floor_div}
 use Rattle.fx_math.specs.Residue.{wrap, FitsBits}
 use Rattle.fx_math.specs.Unroll.{Step, last, so_far, unroll}
-use Rattle.fx_code.specs.Code.{Row, Code, row_at, constant_of, weight}
+use Rattle.fx_code.specs.Code.{Row, Code, row_at, bare, constant_of, weight}
 use Rattle.fx_code.specs.declared.term.CodeTerm.{CodeTerm}
 use Rattle.fx_code.specs.declared.term.Read.{Read}
 use Rattle.fx_code.specs.declared.term.Read.TheVariants.{Now, Old, In}
@@ -21,7 +21,7 @@ terms_sum now old input (t ∷ ts) = weight t *ℤ word_read now old input t.fro
 
 -- the whole-number sum of a row: its constant and its terms
 abbrev pub whole_sum : Row → (ℕ → ℤ) → (ℕ → ℤ) → (ℕ → ℤ) → ℤ
-whole_sum row now old input = pos (constant_of row.shift) +ℤ terms_sum now old input row.terms
+whole_sum row now old input = pos (constant_of (bare row)) +ℤ terms_sum now old input row.terms
 
 -- the word of row i: the accumulator is read as two's complement and floored by the shift, and its low bits are kept, read as signed
 abbrev pub word_step : Code → (ℕ → ℕ → ℤ) → Step
@@ -35,6 +35,10 @@ words p u = unroll (length p.rows) (word_step p u)
 -- the word of output o at moment k
 abbrev pub output_word : Code → (ℕ → ℕ → ℤ) → ℕ → ℕ → ℤ
 output_word p u k o = words p u k (slice_index p.outputs o)
+
+-- the words that are put out at moment k, in the order of the outputs
+abbrev pub outputs_at : Code → (ℕ → ℕ → ℤ) → ℕ → List ℤ
+outputs_at p u k = map (words p u k) p.outputs
 
 -- the whole-number sum of row i at moment k, over the words
 abbrev pub sum_at : Code → (ℕ → ℕ → ℤ) → ℕ → ℕ → ℤ

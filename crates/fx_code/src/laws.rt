@@ -1,6 +1,7 @@
-ghost use Rattle.fx_code.specs.Laws.{CodeStands, EarlierInputs, ExactWords, FittingOutputs, FittingRows, FittingStarts, FlooredRowsRun, OutputsInOrder, WordsRun};
+ghost use Rattle.fx_code.specs.Laws.{BareRowsStand, CodeStands, EarlierInputs, ExactWords, FittingOutputs, FittingRows, FittingStarts, FlooredRowsRun, OutputsInOrder, WordsAreTheirStep, WordsRun};
 
 use crate::program::{Program, programs_fit};
+use fx_math::unrolled_is_its_step;
 use fx_net::rows_stand;
 
 /// A law with nothing to run: what keeps the limits is never refused, be it a start, a row or an output.
@@ -28,9 +29,19 @@ pub fn outputs_are_output_words()
     ensures { OutputsInOrder }
 {}
 
-/// A law with nothing to run: the rows of a program that is put into a net stand there, each with its class.
+/// A law with nothing to run: each word is its row's step over the words of the whole moment and of the one before.
+pub fn words_are_their_step(program: &Program)
+    ensures { WordsAreTheirStep program.now }
+{
+    programs_fit(program);
+    unrolled_is_its_step();
+}
+
+/// A law with nothing to run: rows that are put into a net stand there, each with its class, and so do those of a
+/// program.
 pub fn code_stands()
-    ensures { CodeStands }
+    ensures rows { BareRowsStand }
+    ensures code { CodeStands }
 {
     rows_stand();
 }

@@ -4,14 +4,9 @@
 mod checks;
 mod fault;
 mod laws;
-mod machine;
-#[cfg(test)]
-mod machine_tests;
-mod moment;
+mod limits;
 mod net_rows;
-mod prepared;
 mod program;
-mod sums;
 mod term;
 #[cfg(test)]
 mod tests;
@@ -19,9 +14,10 @@ mod tests;
 pub use fault::{LimitOf, ProgramFault};
 pub use laws::{
     code_stands, exact_words_are_floored_sums, outputs_are_output_words, what_fits_has_no_fault,
-    words_are_a_run, words_read_no_later_inputs,
+    words_are_a_run, words_are_their_step, words_read_no_later_inputs,
 };
-pub use machine::Machine;
-pub use moment::Marks;
+pub use limits::{
+    CODE_ROWS, CODE_TERMS, COEFFICIENT_BITS, LONGEST_SHIFT, PRODUCT_BITS, code_limits_are_these,
+};
 pub use program::{Program, programs_fit};
-pub use term::{CodeTerm, Read};
+pub use term::{CodeTerm, Read, reads_source};

@@ -1,11 +1,11 @@
-ghost use Rattle.std.specs.Prelude.{◌≡◌, ◌+◌, ◌<◌, ◌≤◌, length};
+ghost use Rattle.std.specs.Prelude.{◌≡◌, ◌+◌, ◌<◌, ◌≤◌, length, map};
 ghost use Rattle.fx_net.specs.Rows.{AreEmpty, ReadFits, put_each, put_term, put_terms};
 ghost use Rattle.fx_net.specs.Tables.{net_of};
-ghost use Rattle.fx_code.specs.Code.{IsWhole, row_at};
+ghost use Rattle.fx_code.specs.Code.{IsWhole, bare, row_at};
 ghost use Rattle.fx_code.specs.Fits.{TermFits};
-ghost use Rattle.fx_code.specs.NetRows.{net_read, net_row, net_term, put_classes, put_code, rows_of};
+ghost use Rattle.fx_code.specs.NetRows.{bare_rows, class_of, net_read, net_row, net_term, put_classes, put_code};
 
-use crate::checks::weight_of;
+use crate::limits::LONGEST_SHIFT;
 use crate::program::{Program, programs_fit};
 use crate::term::{CodeTerm, Read};
 use fx_net::Net;
@@ -14,12 +14,12 @@ use fx_nums::{Den, Frac};
 // Puts a term of row `row` of those from `at` on.
 fn put_term<const N: usize>(net: &mut Net<N>, at: usize, row: usize, shift: u8, term: &CodeTerm)
     requires row { at + row < N }
-    requires shift { shift ≤ 62 }
+    requires shift { shift ≤ LONGEST_SHIFT }
     requires fits { TermFits shift term.now }
     requires read { ReadFits N at row (net_read term.now.from) }
     ensures { net_of net.new ≡ put_term at row (net_term shift term.now).coef (net_term shift term.now).from (net_of net.old) }
 {
-    let Some(coefficient) = Frac::new(weight_of(term) as i64, Den::Two(shift)) else {
+    let Some(coefficient) = Frac::new(term.weight() as i64, Den::Two(shift)) else {
         unreachable!();
     };
     match term.from {
@@ -35,7 +35,7 @@ impl Program {
         requires whole { IsWhole self.now }
         requires room { at + length self.now.rows ≤ N }
         requires row { i < length self.now.rows }
-        ensures { net_of net.new ≡ put_terms at i (net_row (row_at self.now i)) (net_of net.old) }
+        ensures { net_of net.new ≡ put_terms at i (net_row (bare (row_at self.now i))) (net_of net.old) }
     {
         programs_fit(self);
         let shift = self.shift(i);
@@ -48,7 +48,7 @@ impl Program {
     fn put_terms<const N: usize>(&self, net: &mut Net<N>, at: usize)
         requires whole { IsWhole self.now }
         requires room { at + length self.now.rows ≤ N }
-        ensures { net_of net.new ≡ put_each at 0 (rows_of self.now) (net_of net.old) }
+        ensures { net_of net.new ≡ put_each at 0 (map net_row (bare_rows self.now)) (net_of net.old) }
     {
         for i in 0..self.rows() {
             self.put_row(net, at, i);
@@ -58,10 +58,10 @@ impl Program {
     // Puts the class of each row.
     fn put_classes<const N: usize>(&self, net: &mut Net<N>, at: usize)
         requires room { at + length self.now.rows ≤ N }
-        ensures { net_of net.new ≡ record (net_of net.old) { halves = put_classes self.now at (length self.now.rows) (net_of net.old).halves } }
+        ensures { net_of net.new ≡ record (net_of net.old) { halves = put_classes (λ r. class_of (bare (row_at self.now r))) at (length self.now.rows) (net_of net.old).halves } }
     {
         for i in 0..self.rows() {
-            net.set_halves(at + i, self.shift(i).min(1));
+            net.set_halves(at + i, self.class(i));
         }
     }
 

@@ -1,13 +1,18 @@
 ghost use Rattle.fx_code.specs.declared.term.CodeTerm.{CodeTerm};
 ghost use Rattle.std.specs.Prelude.{map, ◌≡◌, ◌↔◌, IsTrue, ◌<◌, ◌≤◌, ◌^◌, ◌≤ℤ◌, ◌++◌, [], ◌∷◌, length, IfOk, OnOk, OnErr, pos, slice_index, All};
-ghost use Rattle.fx_code.specs.Code.{Row, Code, row_at, constant_of, OldIsThere, IsWhole};
+ghost use Rattle.fx_code.specs.Code.{Row, Code, row_at, bare, constant_of, OldIsThere, IsWhole};
 ghost use Rattle.fx_code.specs.Inside.{row_of, RowReadsFit};
-ghost use Rattle.fx_code.specs.Fits.{TermFits, RowFits, WidthFits, CodeFits};
-ghost use Rattle.fx_code.specs.Limits.{start_fault, row_fault, output_fault, fault_told};
+ghost use Rattle.fx_math.specs.Answers.{fault_told};
+ghost use Rattle.fx_math.specs.Words.{WidthFits};
+ghost use Rattle.fx_code.specs.Fits.{TermFits, RowFits, CodeFits};
+ghost use Rattle.fx_code.specs.Limits.{start_fault, row_fault, output_fault, is_memory};
+ghost use Rattle.fx_code.specs.NetRows.{class_of};
 
 use crate::checks::{start_fault, terms_fault};
 use crate::fault::{LimitOf, ProgramFault};
+use crate::limits::{CODE_ROWS, CODE_TERMS, LONGEST_SHIFT};
 use crate::term::{CodeTerm, Read};
+use fx_math::{GREATEST_WIDTH, LEAST_WIDTH};
 use std::alloc::{AllocError, Global};
 use std::marker::Model;
 
@@ -51,7 +56,7 @@ impl Program {
         input_widths: &[u8],
     ) -> Result<Program, ProgramFault>
         ensures ok { IfOk result (λ p. p ≡ record { accumulator = accumulator; inputs = input_widths.now; rows = []; outputs = [] }) }
-        ensures fault { start_fault accumulator input_widths.now ≡ fault_told result }
+        ensures fault { start_fault accumulator input_widths.now ≡ fault_told is_memory result }
     {
         if let Some(fault) = start_fault(accumulator, input_widths) {
             return Err(fault);
@@ -73,20 +78,20 @@ impl Program {
     fn row_fault(&self, width: u8, shift: u8, terms: &[CodeTerm]) -> Option<ProgramFault>
         ensures { result ≡ row_fault self.now (record { width = width; shift = shift; terms = terms.now }) }
     {
-        if self.rows.len() >= 40 {
+        if self.rows.len() >= CODE_ROWS {
             return Some(ProgramFault::Limit(LimitOf::Rows, self.rows.len() as i128 + 1));
         }
-        if width < 2 || width > self.accumulator.min(32) {
+        if width < LEAST_WIDTH || width > self.accumulator.min(GREATEST_WIDTH) {
             return Some(ProgramFault::Limit(LimitOf::Width, i128::from(width)));
         }
-        if shift > (self.accumulator - 1).min(62) {
+        if shift > (self.accumulator - 1).min(LONGEST_SHIFT) {
             return Some(ProgramFault::Limit(LimitOf::Shift, i128::from(shift)));
         }
         if let Some(fault) = terms_fault(self.rows.len() as u8, self.inputs.len(), shift, terms) {
             return Some(fault);
         }
         let count = self.terms as i128 + terms.len() as i128;
-        if count > 624 {
+        if count > CODE_TERMS as i128 {
             return Some(ProgramFault::Limit(LimitOf::Terms, count));
         }
         None
@@ -96,7 +101,7 @@ impl Program {
     /// a refused row leaves the program unchanged.
     pub fn add_row(&mut self, width: u8, shift: u8, terms: &[CodeTerm]) -> Result<(), ProgramFault>
         ensures ok { OnOk result (self.new ≡ record self.old { rows = self.old.rows ++ record { width = width; shift = shift; terms = terms.now } ∷ [] }) }
-        ensures fault { row_fault self.old (record { width = width; shift = shift; terms = terms.now }) ≡ fault_told result }
+        ensures fault { row_fault self.old (record { width = width; shift = shift; terms = terms.now }) ≡ fault_told is_memory result }
         ensures err { OnErr result (self.new ≡ self.old) }
     {
         if let Some(fault) = self.row_fault(width, shift, terms) {
@@ -137,7 +142,7 @@ impl Program {
     /// where there is none; a refused output leaves the program unchanged.
     pub fn add_output(&mut self, row: u8) -> Result<(), ProgramFault>
         ensures ok { OnOk result (self.new ≡ record self.old { outputs = self.old.outputs ++ row ∷ [] }) }
-        ensures fault { output_fault self.old row ≡ fault_told result }
+        ensures fault { output_fault self.old row ≡ fault_told is_memory result }
         ensures err { OnErr result (self.new ≡ self.old) }
     {
         if let Some(fault) = self.output_fault(row) {
@@ -203,7 +208,7 @@ impl Program {
     /// How many rows there are: at most 40.
     pub fn rows(&self) -> usize
         ensures value { result ≡ length self.now.rows }
-        ensures high { result ≤ 40 }
+        ensures high { result ≤ CODE_ROWS }
     {
         self.rows.len()
     }
@@ -213,7 +218,7 @@ impl Program {
         requires { i < length self.now.rows }
         ensures value { row_of result.now ≡ row_at self.now i }
         ensures fits { RowFits self.now.accumulator (row_of result.now) }
-        ensures few { length (row_of result.now).terms ≤ 624 }
+        ensures few { length (row_of result.now).terms ≤ CODE_TERMS }
     {
         &self.rows[i]
     }
@@ -232,7 +237,7 @@ impl Program {
     pub fn shift(&self, i: usize) -> u8
         requires { i < length self.now.rows }
         ensures value { result ≡ (row_at self.now i).shift }
-        ensures high { result ≤ 62 }
+        ensures high { result ≤ LONGEST_SHIFT }
         ensures kept { result < self.now.accumulator }
     {
         self.row(i).shift
@@ -241,7 +246,7 @@ impl Program {
     /// What row i's accumulator begins with: half of the last place that the shift drops.
     pub fn constant(&self, i: usize) -> i64
         requires { i < length self.now.rows }
-        ensures value { result ≡ pos (constant_of (row_at self.now i).shift) }
+        ensures value { result ≡ pos (constant_of (bare (row_at self.now i))) }
         ensures high { result ≤ℤ pos (2 ^ 61) }
     {
         match self.row(i).shift {
@@ -250,11 +255,20 @@ impl Program {
         }
     }
 
+    /// The class of row i: how many half steps its rounding may be off.
+    pub fn class(&self, i: usize) -> u8
+        requires { i < length self.now.rows }
+        ensures value { result ≡ class_of (bare (row_at self.now i)) }
+        ensures high { result ≤ 1 }
+    {
+        if self.row(i).shift == 0 { 0 } else { 1 }
+    }
+
     /// The terms of row i, in their order.
     pub fn terms(&self, i: usize) -> &[CodeTerm]
         requires { i < length self.now.rows }
         ensures value { result.now ≡ (row_at self.now i).terms }
-        ensures high { length result.now ≤ 624 }
+        ensures high { length result.now ≤ CODE_TERMS }
         ensures fits { All (TermFits (row_at self.now i).shift) result.now }
     {
         &self.row(i).terms
@@ -313,7 +327,7 @@ fn read_is_there(from: Read, rows: usize) -> bool
 
 // The power of two with this exponent.
 pub fn power_of_two(k: u8) -> i64
-    requires { k ≤ 62 }
+    requires { k ≤ LONGEST_SHIFT }
     ensures { result ≡ pos (2 ^ k) }
 {
     1i64 << k

@@ -138,3 +138,27 @@ fn a_program_is_put_into_a_net(rt: HostRuntime) -> Result<(), Fail> {
     assert_eq!(rt; Some(net.old(2, 2)), Frac::new(0, Den::Ten(0)));
     Ok(())
 }
+
+#[test]
+fn a_copy_is_equal(rt: HostRuntime) -> Result<(), Fail> {
+    let mut program = Program::start(rt.alloc(), 32, &[16])?;
+    let half = term(1, Read::In(0), 0);
+    program.add_row(16, 1, &[half])?;
+    program.add_output(0)?;
+    let copy = program.copy(rt.alloc())?;
+    assert_eq!(rt; copy.terms(0), [half].as_slice());
+    assert_eq!(rt; copy.outputs(), [0].as_slice());
+    Ok(())
+}
+
+#[test]
+fn programs_without_outputs_are_not_whole(rt: HostRuntime) -> Result<(), Fail> {
+    let mut program = Program::start(rt.alloc(), 32, &[16])?;
+    program.add_row(16, 0, &[term(1, Read::Old(1), 0)])?;
+    assert!(rt; !program.is_whole());
+    program.add_output(0)?;
+    assert!(rt; !program.is_whole());
+    program.add_row(16, 0, &[])?;
+    assert!(rt; program.is_whole());
+    Ok(())
+}

@@ -4,8 +4,7 @@ use Rattle.std.proofs.Math.IntN.{ℤ}
 use Rattle.fx_code.specs.Code.{Code}
 use Rattle.fx_code.specs.Inputs.{word_at}
 use Rattle.fx_code.specs.Laws.{EarlierInputs}
-use Rattle.fx_code.specs.Moments.{outputs_at}
-use Rattle.fx_code.specs.Run.{words}
+use Rattle.fx_code.specs.Run.{outputs_at, words}
 use Rattle.fx_sim.specs.Output.{line_of, lines_before, run_text}
 
 -- the lines of the moments of a list are the same, whatever comes behind it

@@ -5,7 +5,8 @@ use Rattle.csv.specs.Reading.{default_config, records, strip_bom}
 use Rattle.fx_code.specs.Code.{Code}
 use Rattle.fx_code.specs.Inputs.{word_at}
 use Rattle.fx_code.specs.Laws.{EarlierInputs}
-use Rattle.fx_code.specs.Moments.{State, StandsAfter, outputs_at}
+use Rattle.fx_code.specs.Run.{outputs_at}
+use Rattle.fx_machine.specs.Moments.{State, StandsAfter}
 use Rattle.fx_sim.specs.declared.fault.SampleFault.{SampleFault}
 use Rattle.fx_sim.specs.Output.{line_of, lines_before, run_text}
 use Rattle.fx_sim.specs.Remaining.{TextReader, Stands, records_left}

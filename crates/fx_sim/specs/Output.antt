@@ -4,7 +4,7 @@ use Rattle.std.specs.Fmt.{signed_decimal}
 use Rattle.std.specs.List.{join_by}
 use Rattle.fx_code.specs.Code.{Code}
 use Rattle.fx_code.specs.Inputs.{word_at}
-use Rattle.fx_code.specs.Moments.{outputs_at}
+use Rattle.fx_code.specs.Run.{outputs_at}
 
 -- words in decimal, joined by commas, and a line feed
 abbrev pub line_of : List ℤ → List ℕ

@@ -3,7 +3,8 @@
 ghost use Rattle.std.specs.Prelude.{◌≡◌, ◌++◌, ◌∷◌, [], List, ℤ, length, OnOk};
 ghost use Rattle.fx_code.specs.Code.{Code, IsWhole};
 ghost use Rattle.fx_code.specs.Inputs.{IsMoment, word_at};
-ghost use Rattle.fx_code.specs.Moments.{StandsAfter, outputs_at};
+ghost use Rattle.fx_code.specs.Run.{outputs_at};
+ghost use Rattle.fx_machine.specs.Moments.{StandsAfter};
 ghost use Rattle.fx_sim.specs.Output.{line_of};
 ghost use Rattle.fx_sim.specs.Samples.{Gives};
 ghost use Rattle.fx_sim.specs.Simulation.{simulation};
@@ -13,7 +14,8 @@ use crate::moment::read_moment;
 use crate::record::{next_record, text_reader};
 use crate::text::put_line;
 use csv::ByteRecord;
-use fx_code::{Machine, Program, words_read_no_later_inputs};
+use fx_code::{Program, words_read_no_later_inputs};
+use fx_machine::Machine;
 use std::alloc::{AllocError, Global};
 
 // Runs one moment, and puts its line.

@@ -5,8 +5,9 @@ use Rattle.std.proofs.lemmas.Fmt.{length-decimal-le_wide}
 use Rattle.std.proofs.lemmas.List.Elements.{All-head, All-tail, All-weaker}
 use Rattle.std.proofs.lemmas.List.Sums.{sum_by-append}
 use Rattle.std.specs.Fmt.{signed_decimal}
-use Rattle.fx_code.specs.Code.{Row, Code, constant_of}
-use Rattle.fx_code.specs.Fits.{TermFits, RowFits, WidthFits, CodeFits}
+use Rattle.fx_code.specs.Code.{Row, Code, half_place}
+use Rattle.fx_code.specs.Fits.{TermFits, RowFits, CodeFits}
+use Rattle.fx_math.specs.Words.{WidthFits}
 use Rattle.fx_code.specs.Limits.{term_count}
 use Rattle.fx_code.specs.declared.term.CodeTerm.{CodeTerm}
 use Rattle.fx_code.specs.declared.term.Read.{Read}
@@ -113,7 +114,7 @@ terms_short shift (t ∷ ts) fits small =
     one_more (term_line t) (term_lines ts) (length ts) (term_short shift t (All-head (TermFits shift) t ts fits) (All-head (λ (x : CodeTerm). number_of x.from < 40) t ts small))
     (terms_short shift ts (All-tail (TermFits shift) t ts fits) (All-tail (λ (x : CodeTerm). number_of x.from < 40) t ts small))
 
-constant_below : (shift : ℕ) → shift ≤ 62 → constant_of shift < 2 ^ 63
+constant_below : (shift : ℕ) → shift ≤ 62 → half_place shift < 2 ^ 63
 constant_below zero h = lit< tt
 constant_below (suc r) h =
     let few : r ≤ 62 = omega arith in
@@ -122,10 +123,10 @@ constant_below (suc r) h =
 
 row_short : (i accumulator : ℕ) (row : Row) → i < 100 → RowFits accumulator row → IsSmall row → length (row_lines i row) ≤ 128 + 64 * length row.terms
 row_short i accumulator row below fits small =
-    let a = constant_short (constant_of row.shift) (constant_below row.shift fits.shift_high) in
+    let a = constant_short (half_place row.shift) (constant_below row.shift fits.shift_high) in
     let b = terms_short row.shift row.terms fits.terms small in
-    let c = store_short i row.shift row.width below (omega (arith, fits.shift_high)) (omega (arith, fits.width_high)) in
-    rw (three_long (constant_line (constant_of row.shift)) (term_lines row.terms) (store_line i row.shift row.width)) (omega arith)
+    let c = store_short i row.shift row.width below (omega (arith, fits.shift_high)) (omega (arith, fits.width.high)) in
+    rw (three_long (constant_line (half_place row.shift)) (term_lines row.terms) (store_line i row.shift row.width)) (omega arith)
 
 rows_short : (i accumulator : ℕ) (rows : List Row) → i + length rows < 100 → All (RowFits accumulator) rows → All IsSmall rows → length (rows_lines i rows) ≤ 128 * length rows + 64 * term_count rows
 rows_short i accumulator [] few fits small = omega arith

@@ -10,8 +10,9 @@ use Rattle.std.proofs.Math.Nat.{pow-le-pow_right}
 use Rattle.std.proofs.Math.Seq.{get_or-append_seam}
 use Rattle.std.specs.List.{starts_with, list_any}
 use Rattle.std.specs.Prelude.{nat_eq}
-use Rattle.fx_code.specs.Code.{Row, Code, IsWhole, OldIsThere, constant_of, row_at}
-use Rattle.fx_code.specs.Fits.{TermFits, RowFits, SourceFits, ReadsFit, WidthFits, CodeFits}
+use Rattle.fx_code.specs.Code.{Row, Code, IsWhole, OldIsThere, half_place, row_at}
+use Rattle.fx_code.specs.Fits.{TermFits, RowFits, SourceFits, ReadsFit, CodeFits}
+use Rattle.fx_math.specs.Words.{WidthFits}
 use Rattle.fx_code.specs.Limits.{same_source, start_fault, row_fault, output_fault, term_count}
 use Rattle.fx_code.specs.declared.term.CodeTerm.{CodeTerm}
 use Rattle.fx_code.specs.declared.term.Read.{Read}
@@ -122,7 +123,7 @@ record RowMay (rows : ℕ) (p : Code) (row : Row) : Type 0 where
   there : All (λ (t : CodeTerm). OldIsThere rows t.from) row.terms
   terms : term_count p.rows + length row.terms ≤ 624
 
-constant_small : (shift : ℕ) → shift ≤ 62 → constant_of shift < 2 ^ 63
+constant_small : (shift : ℕ) → shift ≤ 62 → half_place shift < 2 ^ 63
 constant_small zero h = lit< tt
 constant_small (suc r) h =
     let few : r ≤ 62 = omega arith in
@@ -132,20 +133,20 @@ constant_small (suc r) h =
 unless_none : {A : Type 0} (o : Option ProgramFault) (x : A) → o ≡ None → unless_fault o x ≡ Ok x
 unless_none o x e = rw e refl
 
-row_stepped : (rows : ℕ) (p : Code) (row : Row) (text : List ℕ) (at a b c : ℕ) → constant_at text at ≡ Ok (constant_of row.shift, a) → terms_at 625 (place_of rows p) [] text a ≡ Ok (row.terms, b) → store_at p.accumulator text b ≡ Ok (row.shift, row.width, c) → row_fault p row ≡ None
+row_stepped : (rows : ℕ) (p : Code) (row : Row) (text : List ℕ) (at a b c : ℕ) → constant_at text at ≡ Ok (half_place row.shift, a) → terms_at 625 (place_of rows p) [] text a ≡ Ok (row.terms, b) → store_at p.accumulator text b ≡ Ok (row.shift, row.width, c) → row_fault p row ≡ None
     → row_more rows text (p, at) ≡ Ok (row_on p row, c)
 unfolding row_more after_step
 row_stepped rows p row text at a b c constant terms store passes =
-    let same : (constant_of row.shift == constant_of row.shift) ≡ true = eq-eqb (constant_of row.shift) (constant_of row.shift) refl in
+    let same : (half_place row.shift == half_place row.shift) ≡ true = eq-eqb (half_place row.shift) (half_place row.shift) refl in
     rw (constant, terms, store, unless_none (row_fault p row) (row_on p row) passes, same) refl
 
 row_again : (rows : ℕ) (p : Code) (row : Row) (text : List ℕ) (at : ℕ) (tokens ts : List Lexeme) → RowMay rows p row → SpellsRow (length p.rows) row tokens ts → HasLexemes (drop at text) tokens → After (row_more rows text (p, at)) (λ e. (row_on p row, e)) text ts
 row_again rows p row text at tokens ts may spells h =
     let has = rw spells.constant at h in
-    let constant = constant_again text at (constant_of row.shift) spells.terms (constant_small row.shift may.fits.shift_high) has in
+    let constant = constant_again text at (half_place row.shift) spells.terms (constant_small row.shift may.fits.shift_high) has in
     let pass = terms_may (length p.rows) rows (length p.inputs) row.shift [] row.terms may.below may.fits.terms may.reads.sources may.there (distinct_once row.terms may.reads.once) in
     let terms = terms_again 625 (place_of rows p) [] row.terms text constant.place spells.terms (stored row.shift row.width ts) (omega (arith, may.below, may.rows_high)) may.rows_high may.inputs_high (omega (arith, may.terms)) pass spells.each constant.has in
-    let store = store_again p.accumulator row.shift row.width text terms.place ts (omega (arith, may.fits.shift_high, may.fits.shift_kept)) may.fits.width_low (omega (arith, may.fits.width_high, may.fits.width_kept)) terms.has in
+    let store = store_again p.accumulator row.shift row.width text terms.place ts (omega (arith, may.fits.shift_high, may.fits.shift_kept)) may.fits.width.low (omega (arith, may.fits.width.high, may.fits.width_kept)) terms.has in
     let passes = row_passes p row (omega (arith, may.below, may.rows_high)) may.wide may.fits may.reads may.terms in
     record { place = store.place; is = row_stepped rows p row text at constant.place terms.place store.place constant.is terms.is store.is passes; has = store.has }
 

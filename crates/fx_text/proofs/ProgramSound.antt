@@ -7,7 +7,7 @@ use Rattle.std.proofs.lemmas.List.Elements.{All-nil, All-cons}
 use Rattle.std.proofs.lemmas.Slice.Eq.{starts_is}
 use Rattle.std.specs.List.{starts_with}
 use Rattle.std.specs.Prelude.{nat_eq}
-use Rattle.fx_code.specs.Code.{Row, Code, IsWhole, OldIsThere, constant_of}
+use Rattle.fx_code.specs.Code.{Row, Code, IsWhole, OldIsThere, half_place}
 use Rattle.fx_code.specs.Fits.{CodeFits}
 use Rattle.fx_code.specs.Limits.{start_fault, row_fault, output_fault}
 use Rattle.fx_code.specs.declared.term.CodeTerm.{CodeTerm}
@@ -90,8 +90,8 @@ unless_sound : {A : Type 0} (o : Option ProgramFault) (x : A) → Sound (unless_
 unless_sound (Some fault) x = sound_err _
 unless_sound None x = sound_ok x (refl, refl)
 
-constant_checked : (row got shift : ℕ) → Sound (checked_constant row got shift) (λ _. got ≡ constant_of shift)
-constant_checked row got shift = sound_if (got == constant_of shift) _ _ (λ same. sound_ok tt (eqb-true got (constant_of shift) same)) (λ other. sound_err _)
+constant_checked : (row got shift : ℕ) → Sound (checked_constant row got shift) (λ _. got ≡ half_place shift)
+constant_checked row got shift = sound_if (got == half_place shift) _ _ (λ same. sound_ok tt (eqb-true got (half_place shift) same)) (λ other. sound_err _)
 
 -- the program with one more row
 abbrev row_on : Code → Row → Code

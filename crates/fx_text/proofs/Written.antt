@@ -3,7 +3,7 @@ use Rattle.std.proofs.Common.{◌≡◌, ◌≤◌, ◌<◌, ◌+◌, ◌^◌, �
 use Rattle.std.proofs.lemmas.Int.{ints}
 use Rattle.std.proofs.lemmas.List.Elements.{All-head, All-tail, All-weaker, All-from_get_or}
 use Rattle.std.specs.Fmt.{signed_decimal}
-use Rattle.fx_code.specs.Code.{Row, Code, IsWhole, constant_of, row_at}
+use Rattle.fx_code.specs.Code.{Row, Code, IsWhole, half_place, row_at}
 use Rattle.fx_code.specs.Fits.{SourceFits, CodeFits}
 use Rattle.fx_code.specs.declared.term.CodeTerm.{CodeTerm}
 use Rattle.fx_code.specs.declared.term.Read.{Read}
@@ -169,9 +169,9 @@ row_written : (i : ℕ) (row : Row) (text : List ℕ) (ts : List Lexeme) → i <
 row_written i row text ts below sources h =
     let terms = terms_written row.terms (store_line i row.shift row.width ++ text) _ sources (store_written i row.shift row.width text ts below h) in
     record {
-      tokens = constant_tokens (constant_of row.shift) terms.tokens;
+      tokens = constant_tokens (half_place row.shift) terms.tokens;
       spells = record { terms = terms.tokens; constant = refl; each = terms.spells };
-      has = along _ _ _ (three (constant_line (constant_of row.shift)) (term_lines row.terms) (store_line i row.shift row.width) text) (constant_written (constant_of row.shift) _ _ terms.has);
+      has = along _ _ _ (three (constant_line (half_place row.shift)) (term_lines row.terms) (store_line i row.shift row.width) text) (constant_written (half_place row.shift) _ _ terms.has);
     }
 
 abbrev HasNumbers : Row → Type 0

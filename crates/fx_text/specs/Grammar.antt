@@ -1,7 +1,7 @@
 -- Which texts spell a program.
 use Rattle.std.specs.Prelude.{◌≡◌, ℕ, zero, suc, ◌+◌, ℤ, pos, ◌*ℤ◌, negsuc, List, [], ◌∷◌, ◌++◌, length, codes, ◌⊎◌}
 use Rattle.std.specs.Fmt.{decimal}
-use Rattle.fx_code.specs.Code.{Row, Code, IsWhole, constant_of}
+use Rattle.fx_code.specs.Code.{Row, Code, IsWhole, half_place}
 use Rattle.fx_code.specs.Fits.{CodeFits}
 use Rattle.fx_code.specs.declared.term.CodeTerm.{CodeTerm}
 use Rattle.fx_code.specs.declared.term.Read.{Read}
@@ -83,7 +83,7 @@ store_tokens i shift width rest =
 -- row i: its constant, its terms and its store
 pub record SpellsRow (i : ℕ) (row : Row) (tokens rest : List Lexeme) : Type 0 where
   pub terms : List Lexeme
-  pub constant : tokens ≡ constant_tokens (constant_of row.shift) terms
+  pub constant : tokens ≡ constant_tokens (half_place row.shift) terms
   pub each : SpellsTerms row.terms terms (store_tokens i row.shift row.width rest)
 
 -- the rows from row i on

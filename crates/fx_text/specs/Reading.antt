@@ -3,7 +3,7 @@ use Rattle.std.specs.Prelude.{ℕ, zero, suc, ◌+◌, ◌-◌, ◌^◌, ◌==�
 use Rattle.std.specs.Option.{option_or}
 use Rattle.std.specs.List.{list_any}
 use Rattle.std.specs.Str.{bytes_eq}
-use Rattle.fx_code.specs.Code.{Row, Code, constant_of}
+use Rattle.fx_code.specs.Code.{Row, Code, half_place}
 use Rattle.fx_code.specs.Limits.{same_source, start_fault, row_fault, output_fault}
 use Rattle.fx_code.specs.declared.term.CodeTerm.{CodeTerm}
 use Rattle.fx_code.specs.declared.term.Read.{Read}
@@ -181,7 +181,7 @@ place_of rows p = record { row = length p.rows; rows = rows; inputs = length p.i
 
 -- what a row's constant must be
 abbrev pub checked_constant : ℕ → ℕ → ℕ → Result (Unit {0}) CodeFault
-checked_constant row got shift = if got == constant_of shift then Ok tt else Err (Rounding row (pos got) (pos (constant_of shift)))
+checked_constant row got shift = if got == half_place shift then Ok tt else Err (Rounding row (pos got) (pos (half_place shift)))
 
 -- one more row, of so many in all
 unfoldable pub row_more : ℕ → List ℕ → Code × ℕ → Result (Code × ℕ) CodeFault

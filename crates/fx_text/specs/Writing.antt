@@ -1,7 +1,7 @@
 -- The text that is written for a program: one statement a line.
 use Rattle.std.specs.Prelude.{ℕ, zero, suc, ◌+◌, List, [], ◌∷◌, ◌++◌, length, codes}
 use Rattle.std.specs.Fmt.{decimal, signed_decimal}
-use Rattle.fx_code.specs.Code.{Row, Code, constant_of}
+use Rattle.fx_code.specs.Code.{Row, Code, half_place}
 use Rattle.fx_code.specs.declared.term.CodeTerm.{CodeTerm}
 use Rattle.fx_code.specs.declared.term.Read.{Read}
 use Rattle.fx_code.specs.declared.term.Read.TheVariants.{Now, Old, In}
@@ -38,7 +38,7 @@ store_line i shift width = codes "  r" ++ (decimal i ++ (codes " = LOW(SAR(a, " 
 
 -- the lines of row i
 abbrev pub row_lines : ℕ → Row → List ℕ
-row_lines i row = constant_line (constant_of row.shift) ++ (term_lines row.terms ++ store_line i row.shift row.width)
+row_lines i row = constant_line (half_place row.shift) ++ (term_lines row.terms ++ store_line i row.shift row.width)
 
 -- those of the rows from row i on
 abbrev pub rows_lines : ℕ → List Row → List ℕ

@@ -2,7 +2,7 @@
 
 ghost use Rattle.std.specs.Prelude.{◌≡◌, ◌≤◌, ◌<◌, ◌^◌, [], length, pos, IfOk, None};
 ghost use Rattle.std.specs.List.{list_any};
-ghost use Rattle.fx_code.specs.Code.{constant_of};
+ghost use Rattle.fx_code.specs.Code.{half_place};
 ghost use Rattle.fx_code.specs.Limits.{same_source};
 ghost use Rattle.fx_text.specs.TokenReading.{Gives};
 ghost use Rattle.fx_text.specs.Reading.{signed, sign_at, coefficient_at, source_of, is_ahead, checked_source, source_at, term_at, statement_at, terms_at, constant_at, store_begins_at, store_at, checked_constant};
@@ -245,9 +245,9 @@ pub fn store_at(text: &[u8], at: usize, accumulator: u8) -> Result<(u8, u8, usiz
 }
 
 // Half of the last place that a right shift drops.
-fn constant_of(shift: u8) -> u64
+fn half_place(shift: u8) -> u64
     requires { shift ≤ 62 }
-    ensures value { result ≡ constant_of shift }
+    ensures value { result ≡ half_place shift }
     ensures small { result < 2 ^ 63 }
 {
     match shift {
@@ -262,7 +262,7 @@ pub fn checked_constant(row: u8, got: u64, shift: u8) -> Result<(), CodeFault>
     requires shift { shift ≤ 62 }
     ensures { Gives (λ _. tt) result (checked_constant row got shift) }
 {
-    let wanted = constant_of(shift);
+    let wanted = half_place(shift);
     if got == wanted {
         Ok(())
     } else {

@@ -2,7 +2,7 @@
 
 ghost use Rattle.std.specs.Prelude.{◌≡◌, ◌≤◌, ◌<◌, ◌++◌, length, slice_index, IfOk, OnOk};
 ghost use Rattle.std.specs.String.{string_bytes};
-ghost use Rattle.fx_code.specs.Code.{IsWhole, row_at, constant_of};
+ghost use Rattle.fx_code.specs.Code.{IsWhole, row_at, half_place};
 ghost use Rattle.fx_text.specs.Reading.{code_in};
 ghost use Rattle.fx_text.specs.Grammar.{Spells, first_line};
 ghost use Rattle.fx_text.specs.Writing.{code_text, head_line, input_line, input_lines, constant_line, source_text, term_line, term_lines, store_line, row_lines, rows_lines, output_line, output_lines, keep_line, keep_lines};
@@ -98,7 +98,7 @@ fn put_terms(alloc: Global, out: &mut Vec<u8>, terms: &[CodeTerm]) -> Result<(),
 // What a row's accumulator begins with, as a magnitude.
 fn constant(program: &Program, row: usize) -> u64
     requires { row < length program.now.rows }
-    ensures { result ≡ constant_of (row_at program.now row).shift }
+    ensures { result ≡ half_place (row_at program.now row).shift }
 {
     program.constant(row) as u64
 }

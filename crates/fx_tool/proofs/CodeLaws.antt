@@ -88,4 +88,4 @@ code_law bytes p = (code_stands bytes p, code_again bytes p)
 pub have_bits : (n : CodeNumbers) → CodeFits (code_of n) → (0 < n.accumulator) × (0 < n.width)
 have_bits n h =
     let row = h.rows 0 (row_of n) (lit< tt) in
-    (omega (arith, h.accumulator_low), omega (arith, row.width_low))
+    (omega (arith, h.accumulator_low), omega (arith, row.width.low))

@@ -14,7 +14,7 @@ use Rattle.fx_nums.specs.Fraction.{Fraction, den_value}
 use Rattle.fx_nums.specs.declared.fraction.Den.{Den}
 use Rattle.fx_nums.specs.declared.fraction.Den.TheVariants.{Two, Ten}
 use Rattle.fx_nums.specs.Interval.{magnitude}
-use Rattle.fx_code.specs.Code.{constant_of}
+use Rattle.fx_code.specs.Code.{half_place}
 use Rattle.fx_code.specs.Run.{IsExact, output_word}
 use Rattle.fx_tool.specs.ConstantCode.{CodeNumbers, code_of}
 use Rattle.fx_tool.specs.ConstantFilter.{ConstantFilter, filter_of, target_of}
@@ -74,7 +74,7 @@ gain n = n.coefficient *ℤ pos (2 ^ n.left)
 
 -- the sum of the row at an input word, and the word that it is floored to
 abbrev sum : CodeNumbers → ℤ → ℤ
-sum n v = pos (constant_of n.shift) +ℤ (gain n *ℤ v +ℤ pos 0)
+sum n v = pos (half_place n.shift) +ℤ (gain n *ℤ v +ℤ pos 0)
 
 abbrev floored : CodeNumbers → ℤ → ℤ
 floored n v = floor_div (sum n v) (2 ^ n.shift)
@@ -89,7 +89,7 @@ fits : (f : ConstantFilter) (n : CodeNumbers) (x e : ℕ) → Holds f n x e → 
 fits f n x e h v small =
     let m = gain n in
     let k : ℕ = 2 ^ n.shift in
-    let c = constant_of n.shift in
+    let c = half_place n.shift in
     let positive : 0 < k = pow_pos n.shift in
     let product : unsigned_abs (m *ℤ v) + c ≤ x * k = sum_le m v k f.bound _ _ c x small (weight_le m k positive) (half_scaled n.shift) h.bound in
     let whole : unsigned_abs (sum n v) ≤ x * k = omega (arith, ints, product) in
@@ -119,9 +119,9 @@ near_product f n x e h v small =
     let k : ℕ = 2 ^ n.shift in
     let d = den_value f.coefficient.den in
     let positive : 0 < k = pow_pos n.shift in
-    let rounded : unsigned_abs (floored n v *ℤ pos k -ℤ m *ℤ v) ≤ constant_of n.shift = rw (+ℤ_idr (m *ℤ v)) (rounded_near (m *ℤ v) n.shift) in
+    let rounded : unsigned_abs (floored n v *ℤ pos k -ℤ m *ℤ v) ≤ half_place n.shift = rw (+ℤ_idr (m *ℤ v)) (rounded_near (m *ℤ v) n.shift) in
     let weights = difference_weight_le m num k d positive (den_pos f.coefficient.den) in
-    difference_le (floored n v) m v num k d _ f.bound _ (constant_of n.shift) e positive rounded weights small (half_scaled n.shift) h.error
+    difference_le (floored n v) m v num k d _ f.bound _ (half_place n.shift) e positive rounded weights small (half_scaled n.shift) h.error
 
 -- ---- the exact value
 

@@ -7,18 +7,18 @@ use Rattle.fx_math.specs.Division.{floor_div}
 use Rattle.fx_math.proofs.Division.{floor_below, floor_above, ceil_above, mul_le_nat, cancel_le, between}
 use Rattle.fx_math.proofs.Polynomials.{int, nat, add, sub, mul, neg, same_value}
 use Rattle.fx_nums.specs.Interval.{enclosure, plus, opposite, magnitude}
-use Rattle.fx_code.specs.Code.{constant_of}
+use Rattle.fx_code.specs.Code.{half_place}
 use Rattle.fx_tool.specs.Inequalities.{half_step}
 
 -- ---- rounding
 
 -- the half step at the scale of the weights
-pub half_scaled : (r : ℕ) → half_step r * 2 ^ r ≡ 2 ^ 64 * constant_of r
+pub half_scaled : (r : ℕ) → half_step r * 2 ^ r ≡ 2 ^ 64 * half_place r
 half_scaled zero = omega arith
 half_scaled (suc r) = omega (arith, pow-suc 2 r)
 
 -- the rounded quotient is near the quotient
-pub rounded_near : (p : ℤ) (r : ℕ) → unsigned_abs (floor_div (pos (constant_of r) +ℤ p) (2 ^ r) *ℤ pos (2 ^ r) -ℤ p) ≤ constant_of r
+pub rounded_near : (p : ℤ) (r : ℕ) → unsigned_abs (floor_div (pos (half_place r) +ℤ p) (2 ^ r) *ℤ pos (2 ^ r) -ℤ p) ≤ half_place r
 rounded_near p zero = omega (arith, ints, floor_below (pos 0 +ℤ p) 1, floor_above (pos 0 +ℤ p) 1)
 rounded_near p (suc r) =
     let z = pos (2 ^ r) +ℤ p in

@@ -1,5 +1,5 @@
 use Rattle.std.proofs.Common.{◌≡◌}
-use Rattle.fx_code.specs.Moments.{StandsAfter}
+use Rattle.fx_machine.specs.Moments.{StandsAfter}
 use Rattle.fx_bench.specs.Runs.{moments, seed_before, words_sum}
 use Rattle.fx_bench.proofs.machine.run.Given as goal
 

@@ -1,0 +1,7 @@
+mod Adding
+mod Bits
+mod Following
+mod Marking
+mod Reaching
+mod Running
+mod Stepping

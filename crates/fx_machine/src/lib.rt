@@ -1,0 +1,13 @@
+//! Machines that run programs of integer code moment by moment, and mark what went beyond its bits.
+#![tactic(auto)]
+
+mod machine;
+#[cfg(test)]
+mod machine_tests;
+mod moment;
+mod places;
+mod prepared;
+mod sums;
+
+pub use machine::Machine;
+pub use moment::Marks;

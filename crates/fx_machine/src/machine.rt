@@ -1,0 +1,75 @@
+ghost use Rattle.std.specs.Prelude.{◌≡◌, ℕ, ◌++◌, List, [], ◌∷◌, ℤ, pos, length, replicate, IfOk};
+ghost use Rattle.fx_code.specs.Code.{Code};
+ghost use Rattle.fx_code.specs.Inputs.{word_at, IsMoment};
+ghost use Rattle.fx_machine.specs.Marks.{IsClearWhere, StaysInside};
+ghost use Rattle.fx_code.specs.Run.{IsExact, outputs_at};
+ghost use Rattle.fx_machine.specs.Moments.{StandsAfter};
+
+use crate::moment::{Marks, begin, put_out, run_rows};
+use crate::places::WORD_COUNT;
+use crate::prepared::{PreparedRow, prepared_rows};
+use fx_code::{Program, programs_fit};
+use std::alloc::{AllocError, Global};
+use std::marker::Model;
+
+/// Runs a program, moment by moment.
+#[derive(Drop)]
+pub struct Machine<'p> {
+    program: &'p Program,
+    rows: Vec<PreparedRow>,
+    // The words of this moment's rows, from 40 on those of the moment before, and from 80 on the inputs.
+    words: [i64; WORD_COUNT],
+}
+
+impl<'p> Model for Machine<'p> {
+    ghost use Rattle.fx_machine.specs.Moments.{State};
+
+    ghost Value = { State };
+
+    ghost use Rattle.fx_machine.specs.Standing.{state_of, IsReady};
+
+    ghost view = { state_of };
+
+    ghost invariant = { IsReady };
+}
+
+impl<'p> Machine<'p> {
+    /// A machine that has run nothing yet. Its error is want of memory.
+    pub fn new(alloc: Global, program: &'p Program) -> Result<Machine<'p>, AllocError>
+        ensures { IfOk result (λ m. StandsAfter m program.now []) }
+    {
+        programs_fit(program);
+        let rows = prepared_rows(alloc, program)?;
+        let words = no_words();
+        Ok(Machine {
+            program,
+            rows,
+            words,
+        })
+    }
+
+    /// Runs one moment: takes a word of each input, and puts out a word for each output.
+    /// Each input lies in its width, in two's complement.
+    pub fn step(&mut self, input: &[i64], output: &mut [i64]) -> Marks
+        requires input { IsMoment self.old.program input.now }
+        requires output { length output.old ≡ length self.old.program.outputs }
+        ensures program { self.new.program ≡ self.old.program }
+        ensures stands { (p : Code) (list : List (List ℤ)) → StandsAfter self.old p list → StandsAfter self.new p (list ++ input.now ∷ []) }
+        ensures output { (p : Code) (list : List (List ℤ)) → StandsAfter self.old p list → output.new ≡ outputs_at p (word_at (list ++ input.now ∷ [])) (length list) }
+        ensures lost { (p : Code) (list : List (List ℤ)) → StandsAfter self.old p list → IsClearWhere (IsExact p (word_at (list ++ input.now ∷ [])) (length list)) (length p.rows) result.lost }
+        ensures partial { (p : Code) (list : List (List ℤ)) → StandsAfter self.old p list → IsClearWhere (StaysInside p (word_at (list ++ input.now ∷ [])) (length list)) (length p.rows) result.partial }
+    {
+        let program = self.program;
+        begin(&mut self.words, program.rows(), input);
+        let marks = run_rows(program, &self.rows, &mut self.words);
+        put_out(program.outputs(), &self.words, output);
+        marks
+    }
+}
+
+// No words yet: all are 0.
+fn no_words() -> [i64; WORD_COUNT]
+    ensures { result ≡ replicate WORD_COUNT (pos 0) }
+{
+    [0; WORD_COUNT]
+}
