@@ -1,10 +1,12 @@
 pub mod Answers
 pub mod Division
 pub mod Faults
+pub mod Lines
 pub mod Orders
 pub mod Polynomials
 pub mod Residue
 pub mod Ring
+pub mod Rounding
 pub mod Sums
 pub mod Unroll
 pub mod Values

@@ -1,10 +1,18 @@
-ghost use Rattle.std.specs.Prelude.{◌≡◌, ◌↔◌, ◌^◌, ◌<◌, ◌≤◌, IsTrue, pos, ◌-◌, ◌*◌, ◌+ℤ◌, ◌*ℤ◌, unsigned_abs};
+ghost use Rattle.std.specs.Prelude.{◌≡◌, ◌↔◌, ℕ, ◌^◌, ◌<◌, ◌≤◌, IsTrue, false, IfSome, SomeIff, pos, ◌+◌, ◌-◌, ◌*◌, ◌+ℤ◌, ◌*ℤ◌, ◌≤ℤ◌, unsigned_abs};
 ghost use Rattle.fx_math.specs.Division.{floor_div, ceil_div};
+ghost use Rattle.fx_math.specs.Ratio.{Ratio};
+ghost use Rattle.fx_nums.specs.Arithmetic.{IsLeastMagnitude, IsScaled, IsWithin, QuotientFits, divided, from_ends, has_zero, hull, multiple, quotient_down, quotient_up, scaled, times, widened, width};
+ghost use Rattle.fx_nums.specs.Enclosing.{Encloses, product, value_of};
 ghost use Rattle.fx_nums.specs.Fraction.{den_value};
+ghost use Rattle.fx_nums.specs.Products.{IsRoundedProduct, widened_low, widened_high};
 ghost use Rattle.fx_nums.specs.Interval.{IntervalFits, IsInterval, point, enclosure, plus, opposite, magnitude};
 
+use crate::ends::{end_down, end_up, product_ends, quotient_ends, scaled_ends};
 use crate::fraction::Frac;
-use crate::limits::{INTERVAL_BITS, OPERAND_BITS, SUMMAND_BITS};
+use crate::limits::{
+    DROPPED_BITS, FACTOR_BITS, INTERVAL_BITS, OPERAND_BITS, SUMMAND_BITS, VALUE_BITS,
+};
+use crate::products::mul_ends;
 use std::marker::Model;
 
 /// The numbers from `lo / 2^64` to `hi / 2^64`, both magnitudes below 2^120.
@@ -140,5 +148,135 @@ impl Iv {
         ensures fits { magnitude self < 2 ^ INTERVAL_BITS }
     {
         self.lo.unsigned_abs().max(self.hi.unsigned_abs()) as i128
+    }
+
+    /// The least magnitude of its numbers, times 2^64: 0 where it has the number 0.
+    pub fn low_magnitude(self) -> i128
+        ensures value { IsLeastMagnitude self result }
+        ensures positive { pos 0 ≤ℤ result }
+    {
+        if self.lo > 0 {
+            self.lo
+        } else if self.hi < 0 {
+            -self.hi
+        } else {
+            0
+        }
+    }
+
+    /// The length from the low end to the high one, times 2^64. It is below 2^121.
+    pub fn width(self) -> i128
+        ensures value { result ≡ width self }
+        ensures positive { pos 0 ≤ℤ result }
+    {
+        self.hi - self.lo
+    }
+
+    /// The least interval that has the numbers of both.
+    pub fn hull(self, o: Iv) -> Iv
+        ensures { result ≡ hull self o }
+    {
+        let (lo, hi) = (self.lo.min(o.lo), self.hi.max(o.hi));
+        Iv { lo, hi }
+    }
+
+    /// The product of `p / 2^64` with a fraction, rounded outward.
+    pub fn multiple(p: i128, c: Frac) -> Iv
+        requires { unsigned_abs p < 2 ^ FACTOR_BITS }
+        ensures ends { result ≡ multiple p c }
+        ensures rounded { IsRoundedProduct p c.num (den_value c.den) result.lo result.hi }
+    {
+        let (lo, hi) = mul_ends(p, c);
+        Iv { lo, hi }
+    }
+
+    /// The products of its numbers with a fraction, rounded outward.
+    pub fn scale(self, c: Frac) -> Iv
+        requires { IntervalFits self FACTOR_BITS }
+        ensures ends { result ≡ scaled self c }
+        ensures small { IsWithin (2 ^ SUMMAND_BITS) result }
+        ensures scales { (b : ℕ) → IsWithin (b * 2 ^ DROPPED_BITS) self → IsWithin (b * 2 ^ (VALUE_BITS + DROPPED_BITS)) result }
+        ensures encloses { (x : Ratio) → Encloses self x → Encloses result (product x (value_of c)) }
+    {
+        let (lo, hi) = scaled_ends(self.lo, self.hi, c);
+        Iv { lo, hi }
+    }
+
+    // The ends at the scale 2^-32, rounded outward.
+    fn widened(self) -> Iv
+        requires { IntervalFits self OPERAND_BITS }
+        ensures value { result ≡ widened self }
+        ensures small { IsWithin (2 ^ (OPERAND_BITS - DROPPED_BITS)) result }
+        ensures ordered { widened_low self.lo ≤ℤ widened_high self.hi }
+    {
+        let (lo, hi) = (end_down(self.lo), end_up(self.hi));
+        Iv { lo, hi }
+    }
+
+    // Whether the number 0 is among its numbers.
+    fn has_zero(self) -> bool
+        ensures { result ≡ has_zero self }
+    {
+        self.lo <= 0 && 0 <= self.hi
+    }
+
+    // The products of the numbers of two widened intervals.
+    fn whole_product(self, o: Iv) -> Iv
+        requires left { IsWithin (2 ^ (OPERAND_BITS - DROPPED_BITS)) self }
+        requires right { IsWithin (2 ^ (OPERAND_BITS - DROPPED_BITS)) o }
+        ensures { result ≡ from_ends (λ x y. x *ℤ y) (λ x y. x *ℤ y) self o }
+    {
+        let (lo, hi) = product_ends(self.lo, self.hi, o.lo, o.hi);
+        Iv { lo, hi }
+    }
+
+    // The quotients by the numbers of a widened interval.
+    fn whole_quotient(self, o: Iv) -> Iv
+        requires left { IntervalFits self OPERAND_BITS }
+        requires apart { has_zero o ≡ false }
+        ensures { result ≡ from_ends quotient_down quotient_up self o }
+    {
+        let (lo, hi) = quotient_ends(self.lo, self.hi, o.lo, o.hi);
+        Iv { lo, hi }
+    }
+
+    /// The products of the numbers of both, where the ends fit 88 bits.
+    ///
+    /// Both are first widened to ends that are whole at the scale 2^-32. None where an end of the result has a
+    /// magnitude of 2^88 or more.
+    pub fn times(self, o: Iv) -> Option<Iv>
+        requires left { IntervalFits self OPERAND_BITS }
+        requires right { IntervalFits o OPERAND_BITS }
+        ensures ends { SomeIff result (IntervalFits (times self o) OPERAND_BITS) (times self o) }
+        ensures encloses { IfSome result (λ v. (x y : Ratio) → Encloses self x → Encloses o y → Encloses v (product x y)) }
+    {
+        let product = self.widened().whole_product(o.widened());
+        if product.fits(OPERAND_BITS) {
+            Some(product)
+        } else {
+            None
+        }
+    }
+
+    /// The quotients of the numbers of both, where the ends fit 88 bits.
+    ///
+    /// The divisor is first widened to ends that are whole at the scale 2^-32. None where it then has the number 0, or
+    /// an end of the result has a magnitude of 2^88 or more.
+    pub fn divide(self, o: Iv) -> Option<Iv>
+        requires left { IntervalFits self OPERAND_BITS }
+        requires right { IntervalFits o OPERAND_BITS }
+        ensures ends { SomeIff result (QuotientFits self o) (divided self o) }
+        ensures encloses { IfSome result (λ v. (q y : Ratio) → 0 < y.den → Encloses o y → Encloses self (product q y) → Encloses v q) }
+    {
+        let divisor = o.widened();
+        if divisor.has_zero() {
+            return None;
+        }
+        let quotient = self.whole_quotient(divisor);
+        if quotient.fits(OPERAND_BITS) {
+            Some(quotient)
+        } else {
+            None
+        }
     }
 }

@@ -27,6 +27,18 @@ pub const FACTOR_BITS: u32 = 95;
 /// magnitude.
 pub const OPERAND_BITS: u32 = 88;
 
+/// The ends of an interval are in units of 2 to minus this power.
+pub const SCALE_BITS: u32 = 64;
+
+/// A product below 2 to this power in magnitude is taken exactly.
+pub const PRODUCT_BITS: u32 = 126;
+
+/// What is widened loses so many bits.
+pub const DROPPED_BITS: u32 = 32;
+
+/// The two roundings of a product are less than 2 to this power apart.
+pub const APART_BITS: u32 = 57;
+
 /// The numbers that the limits are.
 pub fn limits_are_these()
     ensures numerator { NUMERATOR_BITS ≡ 62 }
@@ -37,4 +49,8 @@ pub fn limits_are_these()
     ensures summand { SUMMAND_BITS ≡ 119 }
     ensures factor { FACTOR_BITS ≡ 95 }
     ensures operand { OPERAND_BITS ≡ 88 }
+    ensures scale { SCALE_BITS ≡ 64 }
+    ensures product { PRODUCT_BITS ≡ 126 }
+    ensures dropped { DROPPED_BITS ≡ 32 }
+    ensures apart { APART_BITS ≡ 57 }
 {}

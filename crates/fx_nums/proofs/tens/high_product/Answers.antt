@@ -1,0 +1,7 @@
+use Rattle.std.proofs.Common.{arith, ◌^◌, ◌/◌, ◌%◌, ◌∙◌, ap, ◌*◌}
+use Rattle.std.proofs.lemmas.Nat.{div-add-mod'}
+use Rattle.fx_nums.proofs.Reciprocals.{high_split}
+use Rattle.fx_nums.proofs.tens.high_product.Goals as goal
+
+pub returns : goal.returns
+returns c = high_split c.args.n c.args.m
