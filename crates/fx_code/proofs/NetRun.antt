@@ -23,7 +23,7 @@ use Rattle.fx_net.proofs.Carried.{of_now, of_old, of_input, right, gather, one_p
 use Rattle.fx_net.proofs.Coefficients.{value_at, net_sum}
 use Rattle.fx_code.specs.Code.{Code, row_at, bare, half_place, constant_of, weight, OldIsThere, IsWhole}
 use Rattle.fx_code.specs.Fits.{SourceFits, CodeFits}
-use Rattle.fx_code.specs.Laws.{ExactWords, HasNumbers, IsWithinHalves, IsFloored, FlooredRowsRun, WordsAreTheirStep, WordsRun}
+use Rattle.fx_code.specs.Laws.{ExactWords, HasNumbers, IsWithinClass, IsFloored, FlooredRowsRun, WordsAreTheirStep, WordsRun}
 use Rattle.fx_code.specs.NetRows.{net_read, net_row, class_of, bare_rows, HoldsCode}
 use Rattle.fx_code.specs.Run.{word_read, terms_sum, whole_sum, word_step, words, sum_at}
 use Rattle.fx_code.specs.declared.term.CodeTerm.{CodeTerm}
@@ -152,7 +152,7 @@ module _ (p : Code) (net : Net) (at q : ℕ) (u y z : ℕ → ℕ → ℤ)
       ap (λ x. pos (2 ^ shift) *ℤ x) (as_terms net at q i (map (kept_term shift) ts) u z k (has_terms i row))
       ∙ sum_scaled k i shift ts row (fits.reads i row).sources (whole.reads i _ row) (whole_terms net at q i (map (kept_term shift) ts) den (has_terms i row))
 
-  pub row_near : (k i : ℕ) → i < length p.rows → IsFloored p u y k i → IsWithinHalves net q u z k (at + i)
+  pub row_near : (k i : ℕ) → i < length p.rows → IsFloored p u y k i → IsWithinClass net q u z k (at + i)
   row_near k i row floored =
       let shift : ℕ = (row_at p i).shift in
       let s : ℤ = terms_sum (y k) (before y k) (u k) (row_at p i).terms in

@@ -50,23 +50,23 @@ bare_is (row ∷ rows) (suc i) = bare_is rows i
 
 -- rows that are put leave the classes of a net whose rows were empty, and its other rows
 rows_put : (rows : List BareRow) (at count : ℕ) (net put : Net) → count ≡ length rows → put ≡ put_each at 0 (map net_row rows) net → AreEmpty at count net →
-    record put { halves = put_classes (classes_of rows) at count put.halves } ≡ put_bare_rows rows at net
+    record put { class = put_classes (classes_of rows) at count put.class } ≡ put_bare_rows rows at net
 unfolding put_rows
 rows_put rows at count net put same e empty =
     let long : length (map net_row rows) ≡ count = length-map rows net_row ∙ sym same in
     let here : put ≡ put_rows (map net_row rows) at net = e ∙ filled at (map net_row rows) net (rw long empty) in
-    ap (λ (n : Net). record n { halves = put_classes (classes_of rows) at count n.halves }) here
-    ∙ ap (λ h. record (put_rows (map net_row rows) at net) { halves = h })
-    (fun_ext (λ i. by_test i (is_within at count i) (ap (λ n. is_within at n i) long)) ∙ ap (λ n. put_classes (classes_of rows) at n net.halves) same)
+    ap (λ (n : Net). record n { class = put_classes (classes_of rows) at count n.class }) here
+    ∙ ap (λ h. record (put_rows (map net_row rows) at net) { class = h })
+    (fun_ext (λ i. by_test i (is_within at count i) (ap (λ n. is_within at n i) long)) ∙ ap (λ n. put_classes (classes_of rows) at n net.class) same)
   where
-    by_test : (i : ℕ) (b : Bool) → is_within at (length (map net_row rows)) i ≡ b → cond b (class_of (bare_at rows (i - at))) (cond (is_within at (length (map net_row rows)) i) 0 (net.halves i)) ≡ cond b (class_of (bare_at rows (i - at))) (net.halves i)
+    by_test : (i : ℕ) (b : Bool) → is_within at (length (map net_row rows)) i ≡ b → cond b (class_of (bare_at rows (i - at))) (cond (is_within at (length (map net_row rows)) i) 0 (net.class i)) ≡ cond b (class_of (bare_at rows (i - at))) (net.class i)
     by_test i true e = refl
     by_test i false e = cond-false _ _ _ e
 
 pub code_put : (p : Code) (at : ℕ) (net put : Net) → put ≡ put_each at 0 (map net_row (bare_rows p)) net → AreEmpty at (length p.rows) net →
-    record put { halves = put_classes (λ r. class_of (bare (row_at p r))) at (length p.rows) put.halves } ≡ put_code p at net
+    record put { class = put_classes (λ r. class_of (bare (row_at p r))) at (length p.rows) put.class } ≡ put_code p at net
 code_put p at net put e empty =
-    ap (λ (classes : ℕ → ℕ). record put { halves = put_classes classes at (length p.rows) put.halves }) (fun_ext (λ r. ap class_of (sym (bare_is p.rows r))))
+    ap (λ (classes : ℕ → ℕ). record put { class = put_classes classes at (length p.rows) put.class }) (fun_ext (λ r. ap class_of (sym (bare_is p.rows r))))
     ∙ rows_put (bare_rows p) at (length p.rows) net put (sym (length-map p.rows bare)) e empty
 
 pub bare_rows_stand : RowsStand → BareRowsStand

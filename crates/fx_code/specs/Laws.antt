@@ -43,8 +43,8 @@ abbrev pub HasNumbers : Code → Net → ℕ → ℕ → (ℕ → ℕ → ℤ) �
 HasNumbers p net at q y z = (k i : ℕ) → i < length p.rows → z k (at + i) ≡ y k i *ℤ pos (q ^ (row_time net k (at + i) + 1))
 
 -- row i has what it reads at moment k, up to its half steps
-abbrev pub IsWithinHalves : Net → ℕ → (ℕ → ℕ → ℤ) → (ℕ → ℕ → ℤ) → ℕ → ℕ → Type 0
-IsWithinHalves net q u z k i = 2 * unsigned_abs (z k i -ℤ row_sum net q u z k i) ≤ net.halves i * q ^ (row_time net k i + 1)
+abbrev pub IsWithinClass : Net → ℕ → (ℕ → ℕ → ℤ) → (ℕ → ℕ → ℤ) → ℕ → ℕ → Type 0
+IsWithinClass net q u z k i = 2 * unsigned_abs (z k i -ℤ row_sum net q u z k i) ≤ net.class i * q ^ (row_time net k i + 1)
 
 -- the number of row i at moment k is the row's whole-number sum over the numbers, floored by the shift
 abbrev pub IsFloored : Code → (ℕ → ℕ → ℤ) → (ℕ → ℕ → ℤ) → ℕ → ℕ → Type 0
@@ -56,14 +56,14 @@ abbrev pub FlooredRowsRun : Code → Type 0
 FlooredRowsRun p =
     (net : Net) (at q : ℕ) (u y z : ℕ → ℕ → ℤ) →
     IsWhole p → HoldsCode net at p → IsDenominator net q → HasNumbers p net at q y z →
-    (k i : ℕ) → i < length p.rows → IsFloored p u y k i → IsWithinHalves net q u z k (at + i)
+    (k i : ℕ) → i < length p.rows → IsFloored p u y k i → IsWithinClass net q u z k (at + i)
 
 -- so the words of exact rows are such a run
 abbrev pub WordsRun : Code → Type 0
 WordsRun p =
     (net : Net) (at q : ℕ) (u z : ℕ → ℕ → ℤ) →
     IsWhole p → HoldsCode net at p → IsDenominator net q → HasNumbers p net at q (words p u) z →
-    (k i : ℕ) → i < length p.rows → IsExact p u k i → IsWithinHalves net q u z k (at + i)
+    (k i : ℕ) → i < length p.rows → IsExact p u k i → IsWithinClass net q u z k (at + i)
 
 -- ---- the limits
 

@@ -39,16 +39,16 @@ classes_of rows i = class_of (bare_at rows i)
 
 -- the half steps of all rows of a net, with those of so many rows put from a place on
 abbrev pub put_classes : (ℕ → ℕ) → ℕ → ℕ → (ℕ → ℕ) → ℕ → ℕ
-put_classes put at count halves i = cond (is_within at count i) (put (i - at)) (halves i)
+put_classes put at count class i = cond (is_within at count i) (put (i - at)) (class i)
 
 -- the net with these rows from a place on, each with its class; its other rows stay
 abbrev pub put_bare_rows : List BareRow → ℕ → Net → Net
-put_bare_rows rows at net = record (put_rows (map net_row rows) at net) { halves = put_classes (classes_of rows) at (length rows) net.halves }
+put_bare_rows rows at net = record (put_rows (map net_row rows) at net) { class = put_classes (classes_of rows) at (length rows) net.class }
 
 -- the net has these rows from a place on, each with its class
 pub record HoldsBareRows (net : Net) (at : ℕ) (bare : List BareRow) : Type 0 where
   pub rows : HoldsRows net at (map net_row bare)
-  pub classes : (i : ℕ) → i < length bare → net.halves (at + i) ≡ class_of (bare_at bare i)
+  pub classes : (i : ℕ) → i < length bare → net.class (at + i) ≡ class_of (bare_at bare i)
 
 -- ---- programs
 

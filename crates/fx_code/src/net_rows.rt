@@ -58,7 +58,7 @@ impl Program {
     // Puts the class of each row.
     fn put_classes<const N: usize>(&self, net: &mut Net<N>, at: usize)
         requires room { at + length self.now.rows ≤ N }
-        ensures { net_of net.new ≡ record (net_of net.old) { halves = put_classes (λ r. class_of (bare (row_at self.now r))) at (length self.now.rows) (net_of net.old).halves } }
+        ensures { net_of net.new ≡ record (net_of net.old) { class = put_classes (λ r. class_of (bare (row_at self.now r))) at (length self.now.rows) (net_of net.old).class } }
     {
         for i in 0..self.rows() {
             net.set_halves(at + i, self.class(i));

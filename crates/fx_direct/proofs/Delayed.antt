@@ -2,9 +2,8 @@
 use Rattle.std.proofs.Common.{◌≡◌, ℕ, zero, suc, ◌+◌, ◌*◌, ◌/◌, ◌<◌, ◌≤◌, true, List, [], ◌∷◌, length, refl, arith, sym, ap, ap₂, ◌∙◌}
 use Rattle.std.proofs.Math.IntN.{ℤ, pos, ◌+ℤ◌, ◌*ℤ◌}
 use Rattle.std.proofs.lemmas.Int.{ints}
-use Rattle.fx_nums.specs.Fraction.{Fraction}
-use Rattle.fx_eqs.specs.Expanded.{one}
-use Rattle.fx_net.specs.Run.{before}
+use Rattle.fx_math.specs.Unroll.{before}
+use Rattle.fx_nums.specs.Fraction.{Fraction, one_fraction}
 use Rattle.fx_sif.specs.Form.{Form, rows}
 use Rattle.fx_sif.specs.Rows.{row_place, net_read, on_the_right, is_read}
 use Rattle.fx_sif.specs.declared.parts.Block.{Block}
@@ -19,7 +18,7 @@ use Rattle.fx_direct.proofs.Selecting.{InRow}
 -- ---- the number 1
 
 -- a row at the scale of a form's rows
-pub one_weighs : (q g : ℕ) → weight q g one ≡ pos (q * g)
+pub one_weighs : (q g : ℕ) → weight q g one_fraction ≡ pos (q * g)
 one_weighs q g =
     let whole : q / 1 ≡ q = omega arith in
     let e : 1 * (q / 1) * g ≡ q * g = ap (λ m. 1 * m * g) whole ∙ omega arith in
@@ -29,8 +28,8 @@ nothing_more : (y : ℤ) → y +ℤ pos 0 ≡ y
 nothing_more y = omega (arith, ints)
 
 -- what a row reads with coefficient 1 alone
-pub alone : (q g : ℕ) (y : ℤ) → weight q g one *ℤ y +ℤ pos 0 ≡ pos (q * g) *ℤ y
-alone q g y = nothing_more (weight q g one *ℤ y) ∙ ap (λ w. w *ℤ y) (one_weighs q g)
+pub alone : (q g : ℕ) (y : ℤ) → weight q g one_fraction *ℤ y +ℤ pos 0 ≡ pos (q * g) *ℤ y
+alone q g y = nothing_more (weight q g one_fraction *ℤ y) ∙ ap (λ w. w *ℤ y) (one_weighs q g)
 
 -- ---- where the entries of such states stand
 
@@ -44,7 +43,7 @@ module _ (f : Form) (q g last : ℕ) (x u : ℕ → ℕ → ℤ) (positive : 0 <
   -- a state from a place on holds what the first takes in, so many moments before
   pub delayed : (block : Block) (v : ℕ → ℤ) (at count : ℕ) →
       ((i k : ℕ) → i < count → adds f.sizes (weight q g) x u k (f.sizes.t + (at + i)) f.entries ≡ all_add f.sizes (weight q g) x u k (delay_row block at i)) →
-      ((k : ℕ) → k ≤ last → read_of x u k (net_read f.sizes block 0) ≡ v k) → on_the_right block one ≡ one → f.sizes.t + (at + count) ≤ rows f.sizes →
+      ((k : ℕ) → k ≤ last → read_of x u k (net_read f.sizes block 0) ≡ v k) → on_the_right block one_fraction ≡ one_fraction → f.sizes.t + (at + count) ≤ rows f.sizes →
       (i k : ℕ) → k ≤ last → i < count → x k (f.sizes.t + (at + i)) ≡ ago v k i
   delayed block v at count rows_are source plus room zero k h l =
       cancelled (q * g) (x k (f.sizes.t + (at + 0))) (v k) positive

@@ -7,13 +7,13 @@ use Rattle.std.proofs.lemmas.Nat.{pow-add}
 use Rattle.std.proofs.lemmas.List.Elements.{All-head, All-tail}
 use Rattle.fx_math.proofs.Polynomials.{int, nat, add, mul, same_value}
 use Rattle.fx_math.specs.Unroll.{lagged}
+use Rattle.fx_eqs.specs.Denominator.{DividesEach}
 use Rattle.fx_nums.specs.Fraction.{Fraction, den_value, over, IsWholeOver}
 use Rattle.fx_eqs.specs.Equations.{Equations, kept}
 use Rattle.fx_eqs.specs.ExactRun.{terms_sum, value_read}
 use Rattle.fx_eqs.specs.Textbook.{over_lags, summand}
 use Rattle.fx_eqs.specs.declared.term.Source.TheVariants.{In}
 use Rattle.fx_eqs.specs.declared.term.Term.{Term}
-use Rattle.fx_net.specs.Laws.{DividesEach}
 use Rattle.fx_net.specs.Net.{plain}
 use Rattle.fx_net.proofs.Carried.{crossed}
 use Rattle.fx_sif.proofs.Kept.{is_zero-value}

@@ -5,12 +5,12 @@ use Rattle.std.proofs.Math.Nat.{pow-succ'}
 use Rattle.std.proofs.lemmas.Nat.{pow-add}
 use Rattle.fx_math.proofs.Polynomials.{int, nat, mul, same_value}
 use Rattle.fx_math.specs.Unroll.{lagged}
+use Rattle.fx_eqs.specs.Denominator.{DividesEach}
 use Rattle.fx_eqs.specs.Equations.{Equations, kept}
 use Rattle.fx_eqs.specs.Textbook.{over_lags, summand}
 use Rattle.fx_eqs.specs.declared.term.Source.TheVariants.{Row}
 use Rattle.fx_eqs.specs.declared.term.Term.{Term}
 use Rattle.fx_nums.specs.Fraction.{Fraction, over, IsWholeOver}
-use Rattle.fx_net.specs.Laws.{DividesEach}
 use Rattle.fx_net.specs.Net.{plain}
 use Rattle.fx_net.proofs.Carried.{crossed}
 use Rattle.std.proofs.lemmas.List.Elements.{All-head, All-tail}

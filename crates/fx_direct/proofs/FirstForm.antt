@@ -3,9 +3,8 @@ use Rattle.std.proofs.Common.{◌≡◌, ℕ, ◌+◌, ◌*◌, ◌<◌, ◌≤�
 use Rattle.std.proofs.Math.IntN.{ℤ, pos, ◌+ℤ◌, ◌*ℤ◌}
 use Rattle.std.proofs.lemmas.List.{length-map}
 use Rattle.std.proofs.lemmas.List.Elements.{All-head, All-tail}
-use Rattle.fx_nums.specs.Fraction.{Fraction}
-use Rattle.fx_eqs.specs.Expanded.{one}
-use Rattle.fx_eqs.specs.Textbook.{opposite, tf_equations}
+use Rattle.fx_nums.specs.Fraction.{Fraction, one_fraction, minus}
+use Rattle.fx_eqs.specs.Textbook.{tf_equations}
 use Rattle.fx_net.specs.Run.{IsDenominator}
 use Rattle.fx_sif.specs.Fits.{FormFits}
 use Rattle.fx_sif.specs.SameOutputs.{net_alone, HasOutputs}
@@ -48,7 +47,7 @@ module _ (b a : List Fraction) (low : 1 ≤ length b) (fits : FormFits (df1_form
   outputs_before = delays K nb na
 
   abbrev output : List Entry
-  output = entry L 0 0 one ∷ []
+  output = entry L 0 0 one_fraction ∷ []
 
   in_feed : InRow s 0 feed
   in_feed = (refl, refl, across_in s 0 M 0 (drop 1 b) 0 (λ j. refl) refl)
@@ -151,7 +150,7 @@ module _ (b a : List Fraction) (low : 1 ≤ length b) (fits : FormFits (df1_form
     variable_meets : (k : ℕ) → k ≤ last → MeetsAt w (q * g) b a v t k
     variable_meets k h =
         let few : 0 + length (drop 1 b) ≤ nb = omega (arith, length-drop 1 b) in
-        let few_back : 0 + length (fed_back a) ≤ na = omega (arith, length-map (drop 1 a) opposite, length-drop 1 a) in
+        let few_back : 0 + length (fed_back a) ≤ na = omega (arith, length-map (drop 1 a) minus, length-drop 1 a) in
         meet k 0 h (omega arith)
         ∙ variable_row k
         ∙ ap₂ (λ y z. (w (coefficient b 0) *ℤ v k +ℤ y) +ℤ z)

@@ -9,11 +9,12 @@ use Rattle.std.proofs.lemmas.Bool.{and_parts, eqb-true}
 use Rattle.std.proofs.lemmas.List.Elements.{All-head, All-tail, All-nil, All-cons}
 use Rattle.fx_math.proofs.Polynomials.{int, nat, add, mul, same_value}
 use Rattle.fx_math.proofs.Ring.{mul-le-back}
+use Rattle.fx_math.specs.Unroll.{before}
 use Rattle.fx_nums.specs.Fraction.{Fraction, over}
 use Rattle.fx_eqs.specs.Expanded.{NetRead, NetTerm}
 use Rattle.fx_eqs.specs.Expanded.NetRead.{Now, Old, In}
 use Rattle.fx_net.specs.Rows.{ReadFits}
-use Rattle.fx_net.specs.Run.{before, IsRun}
+use Rattle.fx_net.specs.Run.{IsRun}
 use Rattle.fx_sif.specs.Fits.{EntryFits, FormFits}
 use Rattle.fx_sif.specs.Form.{Form, rows}
 use Rattle.fx_sif.specs.Rows.{row_place, is_read, term_of, is_in_row, net_row}

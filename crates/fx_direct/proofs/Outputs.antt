@@ -4,14 +4,14 @@ use Rattle.std.proofs.Math.IntN.{ℤ, pos, ◌+ℤ◌, ◌*ℤ◌}
 use Rattle.std.proofs.Math.Nat.{pow-succ', pow-zero, le-mul_of_pos_right}
 use Rattle.std.proofs.lemmas.Int.{ints}
 use Rattle.std.proofs.lemmas.List.Elements.{filter-append}
-use Rattle.fx_nums.specs.Fraction.{Fraction, IsWholeOver}
+use Rattle.fx_eqs.specs.Denominator.{DividesEach}
+use Rattle.fx_nums.specs.Fraction.{Fraction, IsWholeOver, minus}
 use Rattle.fx_eqs.specs.Equations.{is_kept, kept}
 use Rattle.fx_eqs.specs.ExactRun.{exact_value, terms_sum, with_now, past_values}
 use Rattle.fx_math.specs.Unroll.{fill}
-use Rattle.fx_eqs.specs.Textbook.{opposite, tf_equations, over_lags}
+use Rattle.fx_eqs.specs.Textbook.{tf_equations, over_lags}
 use Rattle.fx_eqs.specs.declared.term.Source.TheVariants.{Row, In}
 use Rattle.fx_eqs.specs.declared.term.Term.{Term}
-use Rattle.fx_net.specs.Laws.{DividesEach}
 use Rattle.fx_net.specs.Rows.{put_rows}
 use Rattle.fx_net.specs.Run.{IsDenominator, IsRun}
 use Rattle.fx_sif.specs.Fits.{FormFits}
@@ -28,7 +28,7 @@ use Rattle.fx_direct.proofs.Unique.{same_sequence, weigh_before}
 
 -- the denominator's coefficients behind the first, with the other sign
 abbrev pub fed_back : List Fraction → List Fraction
-fed_back a = map opposite (drop 1 a)
+fed_back a = map minus (drop 1 a)
 
 -- the one output's row
 abbrev pub top : Form → ℕ

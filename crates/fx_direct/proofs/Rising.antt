@@ -5,9 +5,7 @@ use Rattle.std.proofs.Math.Nat.{le-max_left, le-max_right, max-le}
 use Rattle.std.proofs.lemmas.Bool.{and_parts, eqb-true, ltb-true}
 use Rattle.std.proofs.lemmas.List.{length-map}
 use Rattle.std.proofs.lemmas.List.Elements.{All-nil, All-cons}
-use Rattle.fx_nums.specs.Fraction.{Fraction}
-use Rattle.fx_eqs.specs.Expanded.{one}
-use Rattle.fx_eqs.specs.Textbook.{opposite}
+use Rattle.fx_nums.specs.Fraction.{Fraction, one_fraction, minus}
 use Rattle.fx_eqs.proofs.Distinct.{distinct_cons, distinct_nil}
 use Rattle.fx_sif.specs.Blocks.{height, width, same_block, same_place}
 use Rattle.fx_sif.specs.Fits.{EntryFits, FormFits, KeepsUnitLower}
@@ -141,9 +139,9 @@ rows_rise s lo (suc n) f each =
 delay_rises : (s : Sizes) (b : Block) (at count i : ℕ) → ((i j : ℕ) (c : Fraction) → KeepsUnitLower b i j c) → 1000000 ≤ block_base b → block_base b < 1000300 → at + i < height s b → at + i < s.x → 0 < width s b → s.x ≤ 40 →
     Rises s (1000000 + 1000 * at + 1000 * i) (1000000 + 1000 * at + 1000 * (i + 1)) (delay_row b at i)
 delay_rises s b at count zero free low high here state column few =
-    one_rises s (1000000 + 1000 * at + 1000 * 0) (1000000 + 1000 * at + 1000 * (0 + 1)) b at 0 one (omega arith) (omega arith) (omega arith) column (free at 0 one)
+    one_rises s (1000000 + 1000 * at + 1000 * 0) (1000000 + 1000 * at + 1000 * (0 + 1)) b at 0 one_fraction (omega arith) (omega arith) (omega arith) column (free at 0 one_fraction)
 delay_rises s b at count (suc i) free low high here state column few =
-    one_rises s (1000000 + 1000 * at + 1000 * suc i) (1000000 + 1000 * at + 1000 * (suc i + 1)) P (at + i + 1) (at + i) one (omega arith) (omega arith) (omega arith) (omega arith) tt
+    one_rises s (1000000 + 1000 * at + 1000 * suc i) (1000000 + 1000 * at + 1000 * (suc i + 1)) P (at + i + 1) (at + i) one_fraction (omega arith) (omega arith) (omega arith) (omega arith) tt
 
 delays_rise : (s : Sizes) (b : Block) (at n : ℕ) → ((i j : ℕ) (c : Fraction) → KeepsUnitLower b i j c) → 1000000 ≤ block_base b → block_base b < 1000300 → s.x ≤ height s b → at + n ≤ s.x → 0 < width s b → s.x ≤ 40 →
     Rises s (1000000 + 1000 * at) (1000000 + 1000 * (at + n)) (delays b at n)
@@ -154,8 +152,8 @@ delays_rise s b at n free low high states room column few =
 order_is : (cs : List Fraction) → length (drop 1 cs) ≡ order cs
 order_is cs = length-drop 1 cs
 
-against_is : (cs : List Fraction) → length (map opposite (drop 1 cs)) ≡ order cs
-against_is cs = length-map (drop 1 cs) opposite ∙ order_is cs
+against_is : (cs : List Fraction) → length (map minus (drop 1 cs)) ≡ order cs
+against_is cs = length-map (drop 1 cs) minus ∙ order_is cs
 
 -- ---- the forms
 
@@ -186,14 +184,14 @@ pub df1_rises : (b a : List Fraction) → length b ≤ 13 → length a ≤ 13 �
 df1_rises b a high_b high_a =
     let s = (df1_form b a).sizes in
     let bs = drop 1 b in
-    let fed = map opposite (drop 1 a) in
+    let fed = map minus (drop 1 a) in
     let nb = order_is b in
     let na = against_is a in
     let first = entry N 0 0 (coefficient b 0) ∷ across M 0 0 bs in
     let second = across M 0 (order b) fed in
     let third = delays Q 0 (order b) in
     let fourth = delays K (order b) (order a) in
-    rises_append s 0 (1000000 + 1000 * (order b + order a)) 3000000 (first ++ second ++ third ++ fourth) (entry L 0 0 one ∷ [])
+    rises_append s 0 (1000000 + 1000 * (order b + order a)) 3000000 (first ++ second ++ third ++ fourth) (entry L 0 0 one_fraction ∷ [])
     (rises_append s 0 (1000000 + 1000 * order b) (1000000 + 1000 * (order b + order a)) (first ++ second ++ third) fourth
     (rises_append s 0 1000000 (1000000 + 1000 * order b) (first ++ second) third
     (rises_append s 0 (100 + order b) 1000000 first second
@@ -203,7 +201,7 @@ df1_rises b a high_b high_a =
     (subst (λ m. Rises s (1000000 + 1000 * 0) m third) (let e : 1000000 + 1000 * (0 + order b) ≡ 1000000 + 1000 * order b = omega arith in e)
     (delays_rise s Q 0 (order b) (λ i j c. tt) (omega arith) (omega arith) (omega arith) (omega arith) (omega arith) (omega arith)))))
     (delays_rise s K (order b) (order a) (λ i j c. tt) (omega arith) (omega arith) (omega arith) (omega arith) (omega arith) (omega arith)))
-    (one_rises s (1000000 + 1000 * (order b + order a)) 3000000 L 0 0 one (omega arith) (omega arith) (omega arith) (omega arith) tt)
+    (one_rises s (1000000 + 1000 * (order b + order a)) 3000000 L 0 0 one_fraction (omega arith) (omega arith) (omega arith) (omega arith) tt)
 
 pub df1_never_refused : (b a : List Fraction) → 1 ≤ length b → length b ≤ 13 → 1 ≤ length a → length a ≤ 13 → WhatFitsHasNoFault → NeverRefused (df1_form b a)
 df1_never_refused b a low_b high_b low_a high_a law = never_from 1 (order b + order a) (df1_entries b a) (df1_rises b a high_b high_a) (omega arith) law
@@ -218,21 +216,21 @@ pub greater_order : (b a : List Fraction) → length b ≤ 13 → length a ≤ 1
 greater_order b a high_b high_a = record { left = le-max_left _ _; right = le-max_right _ _; high = max-le (omega arith) (omega arith) }
 
 pub df2_rises : (b a : List Fraction) (n : ℕ) → Greater n (order b) (order a) →
-    Rises (single 1 n) 0 3000000 ((entry N 0 0 one ∷ across M 0 0 (map opposite (drop 1 a))) ++ delays K 0 n ++ (entry L 0 0 (coefficient b 0) ∷ across R 0 0 (drop 1 b)))
+    Rises (single 1 n) 0 3000000 ((entry N 0 0 one_fraction ∷ across M 0 0 (map minus (drop 1 a))) ++ delays K 0 n ++ (entry L 0 0 (coefficient b 0) ∷ across R 0 0 (drop 1 b)))
 df2_rises b a n g =
     let s = single 1 n in
     let bs = drop 1 b in
-    let fed = map opposite (drop 1 a) in
+    let fed = map minus (drop 1 a) in
     let nb : length bs ≡ order b = order_is b in
     let na : length fed ≡ order a = against_is a in
     let l : order b ≤ n = g.left in
     let r : order a ≤ n = g.right in
     let h : n ≤ 12 = g.high in
-    let first = entry N 0 0 one ∷ across M 0 0 fed in
+    let first = entry N 0 0 one_fraction ∷ across M 0 0 fed in
     let second = delays K 0 n in
     rises_append s 0 (1000000 + 1000 * (0 + n)) 3000000 (first ++ second) (entry L 0 0 (coefficient b 0) ∷ across R 0 0 bs)
     (rises_append s 0 (1000000 + 1000 * 0) (1000000 + 1000 * (0 + n)) first second
-    (led_rises s 0 (1000000 + 1000 * 0) N M one fed (λ i j c. tt) (λ i j c. tt) (omega arith) (omega arith) (omega arith) (omega arith) (omega arith) (omega arith) (omega arith))
+    (led_rises s 0 (1000000 + 1000 * 0) N M one_fraction fed (λ i j c. tt) (λ i j c. tt) (omega arith) (omega arith) (omega arith) (omega arith) (omega arith) (omega arith) (omega arith))
     (delays_rise s K 0 n (λ i j c. tt) (omega arith) (omega arith) (omega arith) (omega arith) (omega arith) (omega arith)))
     (led_rises s (1000000 + 1000 * (0 + n)) 3000000 L R (coefficient b 0) bs (λ i j c. tt) (λ i j c. tt) (omega arith) (omega arith) (omega arith) (omega arith) (omega arith) (omega arith) (omega arith))
 
@@ -246,36 +244,36 @@ df2_never_refused b a low_b high_b low_a high_a law =
 state_rises : (b a : List Fraction) (n i : ℕ) → n ≤ 12 → i < n → Rises (single 1 n) (1000000 + 1000 * i) (1000000 + 1000 * (i + 1)) (df2t_row b a n i)
 state_rises b a n i high h = by_test (nat_lt (i + 1) n) refl
   where
-    rest : Rises (single 1 n) (1000050 + 1000 * i) (1000000 + 1000 * (i + 1)) (entry Q i 0 (coefficient b (i + 1)) ∷ entry K i 0 (opposite (coefficient a (i + 1))) ∷ [])
+    rest : Rises (single 1 n) (1000050 + 1000 * i) (1000000 + 1000 * (i + 1)) (entry Q i 0 (coefficient b (i + 1)) ∷ entry K i 0 (minus (coefficient a (i + 1))) ∷ [])
     rest = (omega arith, record { row = h; column = omega arith; unit_lower = tt }, (omega arith, record { row = h; column = omega arith; unit_lower = tt }, omega arith))
 
     by_test : (t : Bool) → nat_lt (i + 1) n ≡ t →
-        Rises (single 1 n) (1000000 + 1000 * i) (1000000 + 1000 * (i + 1)) (cond t (entry P i (i + 1) one ∷ []) [] ++ entry Q i 0 (coefficient b (i + 1)) ∷ entry K i 0 (opposite (coefficient a (i + 1))) ∷ [])
+        Rises (single 1 n) (1000000 + 1000 * i) (1000000 + 1000 * (i + 1)) (cond t (entry P i (i + 1) one_fraction ∷ []) [] ++ entry Q i 0 (coefficient b (i + 1)) ∷ entry K i 0 (minus (coefficient a (i + 1))) ∷ [])
     by_test true e =
         let below : i + 1 < n = ltb-true (i + 1) n e in
-        rises_append (single 1 n) (1000000 + 1000 * i) (1000050 + 1000 * i) (1000000 + 1000 * (i + 1)) (entry P i (i + 1) one ∷ []) (entry Q i 0 (coefficient b (i + 1)) ∷ entry K i 0 (opposite (coefficient a (i + 1))) ∷ [])
-        (one_rises (single 1 n) (1000000 + 1000 * i) (1000050 + 1000 * i) P i (i + 1) one (omega arith) (omega arith) h below tt)
+        rises_append (single 1 n) (1000000 + 1000 * i) (1000050 + 1000 * i) (1000000 + 1000 * (i + 1)) (entry P i (i + 1) one_fraction ∷ []) (entry Q i 0 (coefficient b (i + 1)) ∷ entry K i 0 (minus (coefficient a (i + 1))) ∷ [])
+        (one_rises (single 1 n) (1000000 + 1000 * i) (1000050 + 1000 * i) P i (i + 1) one_fraction (omega arith) (omega arith) h below tt)
         rest
-    by_test false e = rises_lower (single 1 n) (1000000 + 1000 * i) (1000050 + 1000 * i) (1000000 + 1000 * (i + 1)) (entry Q i 0 (coefficient b (i + 1)) ∷ entry K i 0 (opposite (coefficient a (i + 1))) ∷ []) (omega arith) rest
+    by_test false e = rises_lower (single 1 n) (1000000 + 1000 * i) (1000050 + 1000 * i) (1000000 + 1000 * (i + 1)) (entry Q i 0 (coefficient b (i + 1)) ∷ entry K i 0 (minus (coefficient a (i + 1))) ∷ []) (omega arith) rest
 
 first_rises : (c : Fraction) (n : ℕ) → Rises (single 1 n) 0 1000000 (entry N 0 0 c ∷ first_state n)
 first_rises c n = by_test (nat_lt 0 n) refl
   where
-    by_test : (t : Bool) → nat_lt 0 n ≡ t → Rises (single 1 n) 0 1000000 (entry N 0 0 c ∷ cond t (entry M 0 0 one ∷ []) [])
+    by_test : (t : Bool) → nat_lt 0 n ≡ t → Rises (single 1 n) 0 1000000 (entry N 0 0 c ∷ cond t (entry M 0 0 one_fraction ∷ []) [])
     by_test true e =
         let some : 0 < n = ltb-true 0 n e in
         (omega arith, record { row = omega arith; column = omega arith; unit_lower = tt }, (omega arith, record { row = omega arith; column = some; unit_lower = tt }, omega arith))
     by_test false e = (omega arith, record { row = omega arith; column = omega arith; unit_lower = tt }, omega arith)
 
-pub df2t_rises : (b a : List Fraction) (n : ℕ) → n ≤ 12 → Rises (single 1 n) 0 3000000 ((entry N 0 0 (coefficient b 0) ∷ first_state n) ++ by_row n (df2t_row b a n) ++ entry L 0 0 one ∷ [])
+pub df2t_rises : (b a : List Fraction) (n : ℕ) → n ≤ 12 → Rises (single 1 n) 0 3000000 ((entry N 0 0 (coefficient b 0) ∷ first_state n) ++ by_row n (df2t_row b a n) ++ entry L 0 0 one_fraction ∷ [])
 df2t_rises b a n high =
     let s = single 1 n in
     let first = entry N 0 0 (coefficient b 0) ∷ first_state n in
     let second = by_row n (df2t_row b a n) in
-    rises_append s 0 (1000000 + 1000 * n) 3000000 (first ++ second) (entry L 0 0 one ∷ [])
+    rises_append s 0 (1000000 + 1000 * n) 3000000 (first ++ second) (entry L 0 0 one_fraction ∷ [])
     (rises_append s 0 1000000 (1000000 + 1000 * n) first second (first_rises (coefficient b 0) n)
     (rows_rise s 1000000 n (df2t_row b a n) (λ i h. state_rises b a n i high h)))
-    (one_rises s (1000000 + 1000 * n) 3000000 L 0 0 one (omega arith) (omega arith) (omega arith) (omega arith) tt)
+    (one_rises s (1000000 + 1000 * n) 3000000 L 0 0 one_fraction (omega arith) (omega arith) (omega arith) (omega arith) tt)
 
 pub df2t_never_refused : (b a : List Fraction) → 1 ≤ length b → length b ≤ 13 → 1 ≤ length a → length a ≤ 13 → WhatFitsHasNoFault → NeverRefused (df2t_form b a)
 df2t_never_refused b a low_b high_b low_a high_a law =

@@ -5,9 +5,8 @@ use Rattle.std.proofs.Math.IntN.{ℤ, pos, ◌+ℤ◌, ◌*ℤ◌}
 use Rattle.std.proofs.lemmas.List.{length-map}
 use Rattle.std.proofs.lemmas.List.Elements.{All-head, All-tail}
 use Rattle.fx_math.proofs.Ring.{mul-add}
-use Rattle.fx_nums.specs.Fraction.{Fraction}
-use Rattle.fx_eqs.specs.Expanded.{one}
-use Rattle.fx_eqs.specs.Textbook.{opposite, tf_equations}
+use Rattle.fx_nums.specs.Fraction.{Fraction, one_fraction, minus}
+use Rattle.fx_eqs.specs.Textbook.{tf_equations}
 use Rattle.fx_net.specs.Run.{IsDenominator}
 use Rattle.fx_sif.specs.Fits.{FormFits}
 use Rattle.fx_sif.specs.Form.{Form}
@@ -55,7 +54,7 @@ numerator_last w d b a u t y k positive of_t of_y =
 abbrev form_with : List Fraction → List Fraction → ℕ → Form
 form_with b a n = record {
   sizes = single 1 n;
-  entries = (entry N 0 0 one ∷ across M 0 0 (fed_back a)) ++ delays K 0 n ++ (entry L 0 0 (coefficient b 0) ∷ across R 0 0 (drop 1 b));
+  entries = (entry N 0 0 one_fraction ∷ across M 0 0 (fed_back a)) ++ delays K 0 n ++ (entry L 0 0 (coefficient b 0) ∷ across R 0 0 (drop 1 b));
 }
 
 module _ (b a : List Fraction) (n : ℕ) (low : 1 ≤ length b) (wide : Greater n (order b) (order a)) (fits : FormFits (form_with b a n)) where
@@ -63,7 +62,7 @@ module _ (b a : List Fraction) (n : ℕ) (low : 1 ≤ length b) (wide : Greater 
   s = single 1 n
 
   abbrev variable : List Entry
-  variable = entry N 0 0 one ∷ across M 0 0 (fed_back a)
+  variable = entry N 0 0 one_fraction ∷ across M 0 0 (fed_back a)
 
   abbrev states : List Entry
   states = delays K 0 n
@@ -91,7 +90,7 @@ module _ (b a : List Fraction) (n : ℕ) (low : 1 ≤ length b) (wide : Greater 
   denominator q d =
       let rows = (all_of_both (IsSuited q) (variable ++ states) output (entries_suited (form_with b a n) fits q d)).0 in
       let part = (all_of_both (IsSuited q) variable states rows).0 in
-      across_suits q M 0 (fed_back a) 0 (λ j. refl) (λ c. refl) (All-tail (IsSuited q) (entry N 0 0 one) (across M 0 0 (fed_back a)) part)
+      across_suits q M 0 (fed_back a) 0 (λ j. refl) (λ c. refl) (All-tail (IsSuited q) (entry N 0 0 one_fraction) (across M 0 0 (fed_back a)) part)
 
   module _ (q g last : ℕ) (x u : ℕ → ℕ → ℤ) (positive : 0 < q * g) (meet : RowsMeet (form_with b a n) q g last x u) where
     abbrev w : Fraction → ℤ
@@ -121,7 +120,7 @@ module _ (b a : List Fraction) (n : ℕ) (low : 1 ≤ length b) (wide : Greater 
 
     of_variable : (k : ℕ) → k ≤ last → pos (q * g) *ℤ t k ≡ pos (q * g) *ℤ u k 0 +ℤ weigh w t k 1 (fed_back a)
     of_variable k h =
-        let few : 0 + length (fed_back a) ≤ n = (let high = wide.right in omega (arith, high, length-map (drop 1 a) opposite, length-drop 1 a)) in
+        let few : 0 + length (fed_back a) ≤ n = (let high = wide.right in omega (arith, high, length-map (drop 1 a) minus, length-drop 1 a)) in
         meet k 0 h (omega arith)
         ∙ adds_first s w x u k 0 (variable ++ states) output (no_output k 0 (omega arith))
         ∙ adds_first s w x u k 0 variable states (no_states k 0 (inl (omega arith)))

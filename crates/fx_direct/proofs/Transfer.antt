@@ -5,13 +5,13 @@ use Rattle.std.proofs.lemmas.Int.{ints}
 use Rattle.std.proofs.lemmas.List.Elements.{filter-append}
 use Rattle.fx_math.proofs.Ring.{add-mul, mul-add}
 use Rattle.fx_math.specs.Unroll.{fill}
-use Rattle.fx_nums.specs.Fraction.{Fraction, over}
+use Rattle.fx_eqs.specs.Denominator.{DividesEach}
+use Rattle.fx_nums.specs.Fraction.{Fraction, over, minus}
 use Rattle.fx_eqs.specs.Equations.{Equations, is_kept, kept}
 use Rattle.fx_eqs.specs.ExactRun.{exact_value, past_values, terms_sum, value_read, with_now}
-use Rattle.fx_eqs.specs.Textbook.{opposite, over_lags, tf_equations}
+use Rattle.fx_eqs.specs.Textbook.{over_lags, tf_equations}
 use Rattle.fx_eqs.specs.declared.term.Source.TheVariants.{Row, In}
 use Rattle.fx_eqs.specs.declared.term.Term.{Term}
-use Rattle.fx_net.specs.Laws.{DividesEach}
 use Rattle.fx_direct.proofs.Ago.{weigh}
 use Rattle.fx_direct.proofs.Exact.{Suits, inputs_weigh}
 use Rattle.fx_direct.proofs.Feedback.{at_last, rows_weigh}
@@ -32,13 +32,13 @@ sum_append s g u v k i (t ∷ xs) ys =
 shared : (d : ℤ) (a b r : ℤ) → d *ℤ ((a +ℤ b) *ℤ r) ≡ d *ℤ (a *ℤ r) +ℤ d *ℤ (b *ℤ r)
 shared d a b r = ap (λ x. d *ℤ x) (add-mul a b r) ∙ mul-add d (a *ℤ r) (b *ℤ r)
 
-pub transfer_meets : (b a : List Fraction) (q g last scale : ℕ) (u : ℕ → ℕ → ℤ) (k : ℕ) → k ≤ last → Suits q b → Suits q (map opposite (drop 1 a)) →
-    DividesEach g (kept (over_lags 0 (In 0) 0 b)) → DividesEach g (kept (over_lags 0 (Row 0) 1 (map opposite (drop 1 a)))) →
+pub transfer_meets : (b a : List Fraction) (q g last scale : ℕ) (u : ℕ → ℕ → ℤ) (k : ℕ) → k ≤ last → Suits q b → Suits q (map minus (drop 1 a)) →
+    DividesEach g (kept (over_lags 0 (In 0) 0 b)) → DividesEach g (kept (over_lags 0 (Row 0) 1 (map minus (drop 1 a)))) →
     pos (q * g) *ℤ at_last g last scale (exact_value (tf_equations b a) g u) k
-    ≡ weigh (weight q g) (λ k. u k 0 *ℤ pos (scale * g ^ suc last)) k 0 b +ℤ weigh (weight q g) (at_last g last scale (exact_value (tf_equations b a) g u)) k 1 (map opposite (drop 1 a))
+    ≡ weigh (weight q g) (λ k. u k 0 *ℤ pos (scale * g ^ suc last)) k 0 b +ℤ weigh (weight q g) (at_last g last scale (exact_value (tf_equations b a) g u)) k 1 (map minus (drop 1 a))
 transfer_meets b a q g last scale u k h suits_b suits_a divides_b divides_a =
     let s = tf_equations b a in
-    let fed = map opposite (drop 1 a) in
+    let fed = map minus (drop 1 a) in
     let front = over_lags 0 (In 0) 0 b in
     let back = over_lags 0 (Row 0) 1 fed in
     let step : ℕ → (ℕ → ℤ) → ℤ = λ i now. terms_sum s g u k i (with_now now (past_values s g u k)) s.terms in

@@ -6,12 +6,12 @@ use Rattle.std.proofs.lemmas.Bool.{ltb-true, ltb-false}
 use Rattle.std.proofs.lemmas.Int.{ints}
 use Rattle.std.proofs.lemmas.List.{length-map}
 use Rattle.std.proofs.lemmas.List.Elements.{All-head, All-tail, All-nil, All-cons}
-use Rattle.fx_nums.specs.Fraction.{Fraction, IsWholeOver}
+use Rattle.fx_math.specs.Unroll.{before}
+use Rattle.fx_nums.specs.Fraction.{Fraction, IsWholeOver, one_fraction, minus}
 use Rattle.fx_mat.specs.Entries.{zero_fraction}
-use Rattle.fx_eqs.specs.Expanded.{one}
-use Rattle.fx_eqs.specs.Textbook.{opposite, tf_equations}
+use Rattle.fx_eqs.specs.Textbook.{tf_equations}
 use Rattle.fx_net.specs.Net.{plain}
-use Rattle.fx_net.specs.Run.{before, IsDenominator}
+use Rattle.fx_net.specs.Run.{IsDenominator}
 use Rattle.fx_sif.specs.Fits.{FormFits}
 use Rattle.fx_sif.specs.Form.{Form}
 use Rattle.fx_sif.specs.SameOutputs.{net_alone, HasOutputs}
@@ -38,8 +38,8 @@ suits_by_place : (q : ℕ) (cs : List Fraction) → ((i : ℕ) → i < length cs
 suits_by_place q [] h = All-nil (λ (c : Fraction). IsWholeOver q (plain c))
 suits_by_place q (c ∷ cs) h = All-cons (λ (c : Fraction). IsWholeOver q (plain c)) c cs (h 0 (omega arith)) (suits_by_place q cs (λ i l. h (suc i) (omega arith)))
 
-fed_at : (a : List Fraction) (i : ℕ) → coefficient (fed_back a) i ≡ opposite (coefficient a (i + 1))
-fed_at a i = coefficient_opposite (drop 1 a) i ∙ ap opposite (coefficient_next a i)
+fed_at : (a : List Fraction) (i : ℕ) → coefficient (fed_back a) i ≡ minus (coefficient a (i + 1))
+fed_at a i = coefficient_opposite (drop 1 a) i ∙ ap minus (coefficient_next a i)
 
 -- ---- sums of a state
 
@@ -62,7 +62,7 @@ only_sum c u up down all e f h = rw (sym h) (omega (arith, ints, e, f))
 abbrev form_with : List Fraction → List Fraction → ℕ → Form
 form_with b a n = record {
   sizes = single 1 n;
-  entries = (entry N 0 0 (coefficient b 0) ∷ first_state n) ++ by_row n (df2t_row b a n) ++ entry L 0 0 one ∷ [];
+  entries = (entry N 0 0 (coefficient b 0) ∷ first_state n) ++ by_row n (df2t_row b a n) ++ entry L 0 0 one_fraction ∷ [];
 }
 
 module _ (b a : List Fraction) (n : ℕ) (low : 1 ≤ length b) (wide : Greater n (order b) (order a)) (fits : FormFits (form_with b a n)) where
@@ -76,12 +76,12 @@ module _ (b a : List Fraction) (n : ℕ) (low : 1 ≤ length b) (wide : Greater 
   states = by_row n (df2t_row b a n)
 
   abbrev output : List Entry
-  output = entry L 0 0 one ∷ []
+  output = entry L 0 0 one_fraction ∷ []
 
   in_variable : InRow s 0 variable
   in_variable = (refl, refl, by_test (nat_lt 0 n))
     where
-      by_test : (t : Bool) → InRow s 0 (cond t (entry M 0 0 one ∷ []) [])
+      by_test : (t : Bool) → InRow s 0 (cond t (entry M 0 0 one_fraction ∷ []) [])
       by_test true = (refl, refl, tt)
       by_test false = tt
 
@@ -89,9 +89,9 @@ module _ (b a : List Fraction) (n : ℕ) (low : 1 ≤ length b) (wide : Greater 
   each_state i h = by_test (nat_lt (i + 1) n)
     where
       rest : List Entry
-      rest = entry Q i 0 (coefficient b (i + 1)) ∷ entry K i 0 (opposite (coefficient a (i + 1))) ∷ []
+      rest = entry Q i 0 (coefficient b (i + 1)) ∷ entry K i 0 (minus (coefficient a (i + 1))) ∷ []
 
-      by_test : (t : Bool) → InRow s (1 + i) (cond t (entry P i (i + 1) one ∷ []) [] ++ rest)
+      by_test : (t : Bool) → InRow s (1 + i) (cond t (entry P i (i + 1) one_fraction ∷ []) [] ++ rest)
       by_test true = (refl, refl, (refl, refl, (refl, refl, tt)))
       by_test false = (refl, refl, (refl, refl, tt))
 
@@ -102,20 +102,20 @@ module _ (b a : List Fraction) (n : ℕ) (low : 1 ≤ length b) (wide : Greater 
   suited q d = (all_of_both (IsSuited q) (variable ++ states) output (entries_suited (form_with b a n) fits q d)).0
 
   -- both coefficients of a state
-  state_suits : (q i : ℕ) → IsDenominator (net_alone (form_with b a n)) q → i < n → IsWholeOver q (plain (coefficient b (i + 1))) × IsWholeOver q (plain (opposite (coefficient a (i + 1))))
+  state_suits : (q i : ℕ) → IsDenominator (net_alone (form_with b a n)) q → i < n → IsWholeOver q (plain (coefficient b (i + 1))) × IsWholeOver q (plain (minus (coefficient a (i + 1))))
   state_suits q i d h = by_test (nat_lt (i + 1) n) (all_of_rows (IsSuited q) n (df2t_row b a n) (all_of_both (IsSuited q) variable states (suited q d)).1 i h)
     where
       up : Entry
       up = entry Q i 0 (coefficient b (i + 1))
 
       down : Entry
-      down = entry K i 0 (opposite (coefficient a (i + 1)))
+      down = entry K i 0 (minus (coefficient a (i + 1)))
 
-      both_suit : All (IsSuited q) (up ∷ down ∷ []) → IsWholeOver q (plain (coefficient b (i + 1))) × IsWholeOver q (plain (opposite (coefficient a (i + 1))))
+      both_suit : All (IsSuited q) (up ∷ down ∷ []) → IsWholeOver q (plain (coefficient b (i + 1))) × IsWholeOver q (plain (minus (coefficient a (i + 1))))
       both_suit p = (All-head (IsSuited q) up (down ∷ []) p refl, All-head (IsSuited q) down [] (All-tail (IsSuited q) up (down ∷ []) p) refl)
 
-      by_test : (t : Bool) → All (IsSuited q) (cond t (entry P i (i + 1) one ∷ []) [] ++ up ∷ down ∷ []) → IsWholeOver q (plain (coefficient b (i + 1))) × IsWholeOver q (plain (opposite (coefficient a (i + 1))))
-      by_test true p = both_suit (All-tail (IsSuited q) (entry P i (i + 1) one) (up ∷ down ∷ []) p)
+      by_test : (t : Bool) → All (IsSuited q) (cond t (entry P i (i + 1) one_fraction ∷ []) [] ++ up ∷ down ∷ []) → IsWholeOver q (plain (coefficient b (i + 1))) × IsWholeOver q (plain (minus (coefficient a (i + 1))))
+      by_test true p = both_suit (All-tail (IsSuited q) (entry P i (i + 1) one_fraction) (up ∷ down ∷ []) p)
       by_test false p = both_suit p
 
   numerator : (q : ℕ) → IsDenominator (net_alone (form_with b a n)) q → Suits q b
@@ -128,7 +128,7 @@ module _ (b a : List Fraction) (n : ℕ) (low : 1 ≤ length b) (wide : Greater 
   denominator : (q : ℕ) → IsDenominator (net_alone (form_with b a n)) q → Suits q (fed_back a)
   denominator q d =
       let high : order a ≤ n = wide.right in
-      suits_by_place q (fed_back a) (λ i l. subst (λ c. IsWholeOver q (plain c)) (sym (fed_at a i)) (state_suits q i d (omega (arith, l, high, length-map (drop 1 a) opposite, length-drop 1 a))).1)
+      suits_by_place q (fed_back a) (λ i l. subst (λ c. IsWholeOver q (plain c)) (sym (fed_at a i)) (state_suits q i d (omega (arith, l, high, length-map (drop 1 a) minus, length-drop 1 a))).1)
 
   module _ (q g last : ℕ) (x u : ℕ → ℕ → ℤ) (positive : 0 < q * g) (meet : RowsMeet (form_with b a n) q g last x u) where
     abbrev w : Fraction → ℤ
@@ -165,7 +165,7 @@ module _ (b a : List Fraction) (n : ℕ) (low : 1 ≤ length b) (wide : Greater 
     abbrev Holds : ℕ → Type 0
     Holds i = (k : ℕ) → k ≤ last → pos (q * g) *ℤ x k (1 + i) ≡ weigh w v k 0 (drop i bs) +ℤ weigh w t k 0 (drop i fed)
 
-    read_later : (i : ℕ) → Holds i → (k : ℕ) → k ≤ last → w one *ℤ before x k (1 + i) ≡ weigh w v k 1 (drop i bs) +ℤ weigh w t k 1 (drop i fed)
+    read_later : (i : ℕ) → Holds i → (k : ℕ) → k ≤ last → w one_fraction *ℤ before x k (1 + i) ≡ weigh w v k 1 (drop i bs) +ℤ weigh w t k 1 (drop i fed)
     read_later i holds zero h = rw (weigh_start w v (drop i bs) 0, weigh_start w t (drop i fed) 0) (omega (arith, ints))
     read_later i holds (suc k) h =
         ap (λ c. c *ℤ x k (1 + i)) (one_weighs q g) ∙ holds k (omega arith)
@@ -177,7 +177,7 @@ module _ (b a : List Fraction) (n : ℕ) (low : 1 ≤ length b) (wide : Greater 
     up_from : (k i : ℕ) → weigh w v k 0 (drop i bs) ≡ w (coefficient b (i + 1)) *ℤ v k +ℤ weigh w v k 1 (drop (i + 1) bs)
     up_from k i = weigh_from w none v k 0 bs i ∙ ap (λ c. w c *ℤ v k +ℤ weigh w v k 1 (drop (i + 1) bs)) (coefficient_next b i)
 
-    down_from : (k i : ℕ) → weigh w t k 0 (drop i fed) ≡ w (opposite (coefficient a (i + 1))) *ℤ t k +ℤ weigh w t k 1 (drop (i + 1) fed)
+    down_from : (k i : ℕ) → weigh w t k 0 (drop i fed) ≡ w (minus (coefficient a (i + 1))) *ℤ t k +ℤ weigh w t k 1 (drop (i + 1) fed)
     down_from k i = weigh_from w none t k 0 fed i ∙ ap (λ c. w c *ℤ t k +ℤ weigh w t k 1 (drop (i + 1) fed)) (fed_at a i)
 
     -- the lists end where the states do
@@ -185,7 +185,7 @@ module _ (b a : List Fraction) (n : ℕ) (low : 1 ≤ length b) (wide : Greater 
     up_past k l i h = let high : order b ≤ n = wide.left in weigh_past w v k l i bs (omega (arith, h, high, length-drop 1 b))
 
     down_past : (k l i : ℕ) → n ≤ i → weigh w t k l (drop i fed) ≡ pos 0
-    down_past k l i h = let high : order a ≤ n = wide.right in weigh_past w t k l i fed (omega (arith, h, high, length-map (drop 1 a) opposite, length-drop 1 a))
+    down_past k l i h = let high : order a ≤ n = wide.right in weigh_past w t k l i fed (omega (arith, h, high, length-map (drop 1 a) minus, length-drop 1 a))
 
     one_state : (i : ℕ) → i < n → (i + 1 < n → Holds (i + 1)) → Holds i
     one_state i h next k l = meet k (1 + i) l (omega arith) ∙ state_row i k h ∙ by_test (nat_lt (i + 1) n) refl
@@ -194,19 +194,19 @@ module _ (b a : List Fraction) (n : ℕ) (low : 1 ≤ length b) (wide : Greater 
         up = w (coefficient b (i + 1)) *ℤ v k
 
         down : ℤ
-        down = w (opposite (coefficient a (i + 1))) *ℤ t k
+        down = w (minus (coefficient a (i + 1))) *ℤ t k
 
         rest : List Entry
-        rest = entry Q i 0 (coefficient b (i + 1)) ∷ entry K i 0 (opposite (coefficient a (i + 1))) ∷ []
+        rest = entry Q i 0 (coefficient b (i + 1)) ∷ entry K i 0 (minus (coefficient a (i + 1))) ∷ []
 
-        by_test : (c : Bool) → nat_lt (i + 1) n ≡ c → all_add s w x u k (cond c (entry P i (i + 1) one ∷ []) [] ++ rest) ≡ weigh w v k 0 (drop i bs) +ℤ weigh w t k 0 (drop i fed)
+        by_test : (c : Bool) → nat_lt (i + 1) n ≡ c → all_add s w x u k (cond c (entry P i (i + 1) one_fraction ∷ []) [] ++ rest) ≡ weigh w v k 0 (drop i bs) +ℤ weigh w t k 0 (drop i fed)
         by_test true e =
-            state_sum (w one) (before x k (1 + (i + 1))) (w (coefficient b (i + 1))) (v k) (w (opposite (coefficient a (i + 1)))) (t k)
+            state_sum (w one_fraction) (before x k (1 + (i + 1))) (w (coefficient b (i + 1))) (v k) (w (minus (coefficient a (i + 1)))) (t k)
             (weigh w v k 0 (drop i bs)) (weigh w t k 0 (drop i fed)) (weigh w v k 1 (drop (i + 1) bs)) (weigh w t k 1 (drop (i + 1) fed))
             (read_later (i + 1) (next (ltb-true (i + 1) n e)) k l) (up_from k i) (down_from k i)
         by_test false e =
             let past : n ≤ i + 1 = ltb-false (i + 1) n e in
-            last_sum (w (coefficient b (i + 1))) (v k) (w (opposite (coefficient a (i + 1)))) (t k) (weigh w v k 0 (drop i bs)) (weigh w t k 0 (drop i fed))
+            last_sum (w (coefficient b (i + 1))) (v k) (w (minus (coefficient a (i + 1)))) (t k) (weigh w v k 0 (drop i bs)) (weigh w t k 0 (drop i fed))
             (up_from k i ∙ ap (λ y. up +ℤ y) (up_past k 1 (i + 1) past))
             (down_from k i ∙ ap (λ y. down +ℤ y) (down_past k 1 (i + 1) past))
 
@@ -223,9 +223,9 @@ module _ (b a : List Fraction) (n : ℕ) (low : 1 ≤ length b) (wide : Greater 
         ∙ adds_here s w x u k 0 variable in_variable
         ∙ by_test (nat_lt 0 n) refl
       where
-        by_test : (c : Bool) → nat_lt 0 n ≡ c → w (coefficient b 0) *ℤ v k +ℤ all_add s w x u k (cond c (entry M 0 0 one ∷ []) []) ≡ weigh w v k 0 b +ℤ weigh w t k 1 fed
+        by_test : (c : Bool) → nat_lt 0 n ≡ c → w (coefficient b 0) *ℤ v k +ℤ all_add s w x u k (cond c (entry M 0 0 one_fraction ∷ []) []) ≡ weigh w v k 0 b +ℤ weigh w t k 1 fed
         by_test true e =
-            first_sum (w one) (before x k (1 + 0)) (w (coefficient b 0)) (v k) (weigh w v k 1 bs) (weigh w t k 1 fed) (weigh w v k 0 b)
+            first_sum (w one_fraction) (before x k (1 + 0)) (w (coefficient b 0)) (v k) (weigh w v k 1 bs) (weigh w t k 1 fed) (weigh w v k 0 b)
             (read_later 0 (all_states n 0 (omega arith) (ltb-true 0 n e)) k h) (first_lag w v k b low)
         by_test false e =
             let past : n ≤ 0 = ltb-false 0 n e in

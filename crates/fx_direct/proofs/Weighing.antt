@@ -4,9 +4,8 @@ use Rattle.std.proofs.Math.IntN.{ℤ, pos, ◌+ℤ◌, ◌*ℤ◌}
 use Rattle.std.proofs.lemmas.Int.{ints}
 use Rattle.std.proofs.lemmas.List.{drop_all}
 use Rattle.fx_math.proofs.Ring.{mul-add, mul_assoc, mul_comm}
-use Rattle.fx_nums.specs.Fraction.{Fraction}
+use Rattle.fx_nums.specs.Fraction.{Fraction, minus}
 use Rattle.fx_mat.specs.Entries.{zero_fraction}
-use Rattle.fx_eqs.specs.Textbook.{opposite}
 use Rattle.fx_direct.specs.Entries.{coefficient}
 use Rattle.fx_direct.proofs.Ago.{ago, weigh}
 use Rattle.fx_direct.proofs.Unique.{ago_same}
@@ -102,7 +101,7 @@ pub coefficient_next : (cs : List Fraction) (i : ℕ) → coefficient (drop 1 cs
 coefficient_next [] i = refl
 coefficient_next (c ∷ cs) i = let e : suc i ≡ i + 1 = omega arith in ap (coefficient (c ∷ cs)) e
 
-pub coefficient_opposite : (cs : List Fraction) (i : ℕ) → coefficient (map opposite cs) i ≡ opposite (coefficient cs i)
+pub coefficient_opposite : (cs : List Fraction) (i : ℕ) → coefficient (map minus cs) i ≡ minus (coefficient cs i)
 coefficient_opposite [] i = refl
 coefficient_opposite (c ∷ cs) zero = refl
 coefficient_opposite (c ∷ cs) (suc i) = coefficient_opposite cs i

@@ -3,8 +3,7 @@ use Rattle.std.proofs.Common.{◌≡◌, ℕ, ◌+◌, ◌*◌, ◌<◌, ◌≤�
 use Rattle.std.proofs.Math.IntN.{ℤ, pos, ◌+ℤ◌, ◌*ℤ◌}
 use Rattle.std.proofs.lemmas.Int.{ints}
 use Rattle.std.proofs.lemmas.List.Elements.{All-head, All-tail, All-nil, All-cons}
-use Rattle.fx_nums.specs.Fraction.{Fraction, IsWholeOver}
-use Rattle.fx_eqs.specs.Expanded.{one}
+use Rattle.fx_nums.specs.Fraction.{Fraction, IsWholeOver, one_fraction}
 use Rattle.fx_eqs.specs.Textbook.{tf_equations}
 use Rattle.fx_net.specs.Net.{plain}
 use Rattle.fx_net.specs.Run.{IsDenominator}
@@ -57,7 +56,7 @@ module _ (b : List Fraction) (low : 1 ≤ length b) (fits : FormFits (fir_form b
       (All-head (IsSuited q) (entry S 0 0 (coefficient b 0)) tail part refl)
       (across_suits q R 0 (drop 1 b) 0 (λ j. refl) (λ c. refl) (All-tail (IsSuited q) (entry S 0 0 (coefficient b 0)) tail part))
 
-  meets : (q g last : ℕ) (x u : ℕ → ℕ → ℤ) → 0 < q * g → RowsMeet (fir_form b) q g last x u → (k : ℕ) → k ≤ last → MeetsAt (weight q g) (q * g) b (one ∷ []) (λ k. u k 0) (λ k. x k (0 + order b + 0)) k
+  meets : (q g last : ℕ) (x u : ℕ → ℕ → ℤ) → 0 < q * g → RowsMeet (fir_form b) q g last x u → (k : ℕ) → k ≤ last → MeetsAt (weight q g) (q * g) b (one_fraction ∷ []) (λ k. u k 0) (λ k. x k (0 + order b + 0)) k
   meets q g last x u positive meet k h =
       let w = weight q g in
       let v : ℕ → ℤ = λ k. u k 0 in
@@ -73,8 +72,8 @@ module _ (b : List Fraction) (low : 1 ≤ length b) (fits : FormFits (fir_form b
       ∙ first_lag w v k b low
       ∙ no_feedback (weigh w v k 0 b)
 
-  pub fir_outputs : HasOutputs (fir_form b) (tf_equations b (one ∷ []))
-  fir_outputs = has_outputs (fir_form b) b (one ∷ []) fits (record {
+  pub fir_outputs : HasOutputs (fir_form b) (tf_equations b (one_fraction ∷ []))
+  fir_outputs = has_outputs (fir_form b) b (one_fraction ∷ []) fits (record {
     inputs = refl;
     outputs = refl;
     numerator = suits;
@@ -82,5 +81,5 @@ module _ (b : List Fraction) (low : 1 ≤ length b) (fits : FormFits (fir_form b
     meets = meets;
   })
 
-pub fir_has_outputs : (b : List Fraction) → 1 ≤ length b → length b ≤ 13 → HasOutputs (fir_form b) (tf_equations b (one ∷ []))
+pub fir_has_outputs : (b : List Fraction) → 1 ≤ length b → length b ≤ 13 → HasOutputs (fir_form b) (tf_equations b (one_fraction ∷ []))
 fir_has_outputs b low high = fir_outputs b low (fits_from 0 (order b) (fir_entries b) (fir_rises b high) (omega arith) (omega arith))

@@ -1,8 +1,7 @@
 -- Entries of an implicit form that stand in one row, or in rows one behind the other.
 use Rattle.std.specs.Prelude.{ℕ, zero, suc, ◌+◌, List, [], ◌∷◌, ◌++◌, slice_index_or}
-use Rattle.fx_nums.specs.Fraction.{Fraction}
+use Rattle.fx_nums.specs.Fraction.{Fraction, one_fraction}
 use Rattle.fx_mat.specs.Entries.{zero_fraction}
-use Rattle.fx_eqs.specs.Expanded.{one}
 use Rattle.fx_sif.specs.declared.parts.Block.{Block}
 use Rattle.fx_sif.specs.declared.parts.Block.TheVariants.{P}
 use Rattle.fx_sif.specs.declared.parts.Entry.{Entry}
@@ -27,8 +26,8 @@ by_row (suc n) f = by_row n f ++ f n
 -- states from a place on that pass a value on: the first takes what column 0 of the block reads, each further one the
 -- state before it
 abbrev pub delay_row : Block → ℕ → ℕ → List Entry
-delay_row block at zero = entry block at 0 one ∷ []
-delay_row block at (suc i) = entry P (at + i + 1) (at + i) one ∷ []
+delay_row block at zero = entry block at 0 one_fraction ∷ []
+delay_row block at (suc i) = entry P (at + i + 1) (at + i) one_fraction ∷ []
 
 -- so many of them
 abbrev pub delays : Block → ℕ → ℕ → List Entry

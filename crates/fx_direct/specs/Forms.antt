@@ -1,9 +1,7 @@
 -- The four direct forms of a filter with numerator b and denominator a, whose first entry is 1: their counts, and their
 -- entries in the order written, row after row. Coefficients that are missing are 0.
 use Rattle.std.specs.Prelude.{ℕ, ◌+◌, ◌-◌, max, nat_lt, cond, List, [], ◌∷◌, ◌++◌, length, map, drop}
-use Rattle.fx_nums.specs.Fraction.{Fraction}
-use Rattle.fx_eqs.specs.Expanded.{one}
-use Rattle.fx_eqs.specs.Textbook.{opposite}
+use Rattle.fx_nums.specs.Fraction.{Fraction, one_fraction, minus}
 use Rattle.fx_sif.specs.Form.{Form}
 use Rattle.fx_sif.specs.declared.parts.Block.TheVariants.{K, L, M, N, P, Q, R, S}
 use Rattle.fx_sif.specs.declared.parts.Entry.{Entry}
@@ -30,8 +28,8 @@ fir_form b = record { sizes = single 0 (order b); entries = fir_entries b }
 
 abbrev pub df1_entries : List Fraction → List Fraction → List Entry
 df1_entries b a =
-    (entry N 0 0 (coefficient b 0) ∷ across M 0 0 (drop 1 b)) ++ across M 0 (order b) (map opposite (drop 1 a))
-    ++ delays Q 0 (order b) ++ delays K (order b) (order a) ++ entry L 0 0 one ∷ []
+    (entry N 0 0 (coefficient b 0) ∷ across M 0 0 (drop 1 b)) ++ across M 0 (order b) (map minus (drop 1 a))
+    ++ delays Q 0 (order b) ++ delays K (order b) (order a) ++ entry L 0 0 one_fraction ∷ []
 
 abbrev pub df1_form : List Fraction → List Fraction → Form
 df1_form b a = record { sizes = single 1 (order b + order a); entries = df1_entries b a }
@@ -40,7 +38,7 @@ df1_form b a = record { sizes = single 1 (order b + order a); entries = df1_entr
 
 abbrev pub df2_entries : List Fraction → List Fraction → List Entry
 df2_entries b a =
-    (entry N 0 0 one ∷ across M 0 0 (map opposite (drop 1 a)))
+    (entry N 0 0 one_fraction ∷ across M 0 0 (map minus (drop 1 a)))
     ++ delays K 0 (max (order b) (order a)) ++ (entry L 0 0 (coefficient b 0) ∷ across R 0 0 (drop 1 b))
 
 abbrev pub df2_form : List Fraction → List Fraction → Form
@@ -51,17 +49,17 @@ df2_form b a = record { sizes = single 1 (max (order b) (order a)); entries = df
 -- state i of n, counted from 0
 abbrev pub df2t_row : List Fraction → List Fraction → ℕ → ℕ → List Entry
 df2t_row b a n i =
-    cond (nat_lt (i + 1) n) (entry P i (i + 1) one ∷ []) []
-    ++ entry Q i 0 (coefficient b (i + 1)) ∷ entry K i 0 (opposite (coefficient a (i + 1))) ∷ []
+    cond (nat_lt (i + 1) n) (entry P i (i + 1) one_fraction ∷ []) []
+    ++ entry Q i 0 (coefficient b (i + 1)) ∷ entry K i 0 (minus (coefficient a (i + 1))) ∷ []
 
 -- the first state, where there is one
 abbrev pub first_state : ℕ → List Entry
-first_state n = cond (nat_lt 0 n) (entry M 0 0 one ∷ []) []
+first_state n = cond (nat_lt 0 n) (entry M 0 0 one_fraction ∷ []) []
 
 abbrev pub df2t_entries : List Fraction → List Fraction → List Entry
 df2t_entries b a =
     let n = max (order b) (order a) in
-    (entry N 0 0 (coefficient b 0) ∷ first_state n) ++ by_row n (df2t_row b a n) ++ entry L 0 0 one ∷ []
+    (entry N 0 0 (coefficient b 0) ∷ first_state n) ++ by_row n (df2t_row b a n) ++ entry L 0 0 one_fraction ∷ []
 
 abbrev pub df2t_form : List Fraction → List Fraction → Form
 df2t_form b a = record { sizes = single 1 (max (order b) (order a)); entries = df2t_entries b a }

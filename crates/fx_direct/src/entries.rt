@@ -1,8 +1,7 @@
 //! Entries of an implicit form, row after row.
 
 ghost use Rattle.std.specs.Prelude.{◌≡◌, ◌≤◌, ◌<◌, ◌+◌, ◌++◌, [], ◌∷◌, drop, length, map, max, OnOk};
-ghost use Rattle.fx_eqs.specs.Expanded.{one};
-ghost use Rattle.fx_eqs.specs.Textbook.{opposite};
+ghost use Rattle.fx_nums.specs.Fraction.{one_fraction, minus};
 ghost use Rattle.fx_direct.specs.Entries.{across, coefficient, delay_row, by_row, delays, entry};
 ghost use Rattle.fx_direct.specs.Forms.{df2t_row, first_state};
 
@@ -82,7 +81,7 @@ pub fn against(
     coefficients: &[Frac],
 ) -> Result<(), AllocError>
     requires { first + length coefficients.now ≤ 100 }
-    ensures { OnOk result (entries.new.items ≡ entries.old.items ++ across block 0 first (map opposite coefficients.now)) }
+    ensures { OnOk result (entries.new.items ≡ entries.old.items ++ across block 0 first (map minus coefficients.now)) }
 {
     let mut column = first;
     for coef in coefficients {

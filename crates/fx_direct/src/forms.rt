@@ -1,7 +1,7 @@
 //! The four direct forms.
 
 ghost use Rattle.std.specs.Prelude.{◌≡◌, ◌≤◌, ◌<◌, ◌+◌, [], ◌∷◌, length, IfOk};
-ghost use Rattle.fx_eqs.specs.Expanded.{one};
+ghost use Rattle.fx_nums.specs.Fraction.{one_fraction};
 ghost use Rattle.fx_eqs.specs.Textbook.{tf_equations};
 ghost use Rattle.fx_sif.specs.SameOutputs.{HasOutputs};
 ghost use Rattle.fx_direct.specs.Forms.{df1_form, df2_form, df2t_form, fir_form};
@@ -49,7 +49,7 @@ pub fn fir(alloc: Global, b: &[Frac]) -> Result<Sif, AllocError>
     requires low { 1 ≤ length b.now }
     requires high { length b.now ≤ 13 }
     ensures value { IfOk result (λ s. s ≡ fir_form b.now) }
-    ensures same { IfOk result (λ s. HasOutputs s (tf_equations b.now (one ∷ []))) }
+    ensures same { IfOk result (λ s. HasOutputs s (tf_equations b.now (one_fraction ∷ []))) }
 {
     let order = b.len() - 1;
     let mut entries = Vec::new(alloc);

@@ -1,7 +1,7 @@
 //! Laws with nothing to run.
 
 ghost use Rattle.std.specs.Prelude.{◌≤◌, [], ◌∷◌, length};
-ghost use Rattle.fx_eqs.specs.Expanded.{one};
+ghost use Rattle.fx_nums.specs.Fraction.{one_fraction};
 ghost use Rattle.fx_eqs.specs.Textbook.{tf_equations};
 ghost use Rattle.fx_sif.specs.SameOutputs.{HasOutputs};
 ghost use Rattle.fx_direct.specs.Forms.{df1_form, df2_form, df2t_form, fir_form};
@@ -58,7 +58,7 @@ pub fn df2t_is_never_refused(b: &[Frac], a: &[Frac])
 pub fn fir_keeps_the_outputs(b: &[Frac])
     requires low { 1 ≤ length b.now }
     requires high { length b.now ≤ 13 }
-    ensures { HasOutputs (fir_form b.now) (tf_equations b.now (one ∷ [])) }
+    ensures { HasOutputs (fir_form b.now) (tf_equations b.now (one_fraction ∷ [])) }
 {}
 
 /// A law with nothing to run: `df1` puts out what the equations of its transfer function put out, at every moment and

@@ -1,9 +1,10 @@
 -- The expanded net has as many rows as are counted.
 use Rattle.std.proofs.Common.{◌≡◌, ℕ, zero, suc, ◌+◌, ◌-◌, ◌++◌, ◌∷◌, [], List, length, arith, refl, ap, ap₂, ◌∙◌, length-append}
+use Rattle.fx_math.specs.Sums.{sum_below, joined}
 use Rattle.fx_eqs.specs.Equations.{Equations}
-use Rattle.fx_eqs.specs.Expanded.{NetRead, NetTerm, hold_rows, joined, expanded, equation_row, input_hold_place, row_place, row_hold_place}
+use Rattle.fx_eqs.specs.Expanded.{NetRead, NetTerm, hold_rows, expanded, equation_row, input_hold_place, row_place, row_hold_place}
 use Rattle.fx_eqs.specs.Expanded.NetRead.{Old, In}
-use Rattle.fx_eqs.specs.Lags.{sum_below, greatest_lag, net_rows}
+use Rattle.fx_eqs.specs.Lags.{greatest_lag, net_rows}
 use Rattle.fx_eqs.specs.declared.term.Source.TheVariants.{Row, In as Input}
 
 length-holds : (from : NetRead) (count place : ℕ) → length (hold_rows from count place) ≡ count

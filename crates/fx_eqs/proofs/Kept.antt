@@ -1,23 +1,23 @@
 -- What the tests refuse not, fits.
-use Rattle.std.proofs.Common.{◌≡◌, ℕ, ◌<◌, ◌≤◌, Bool, true, false, cond, eqb, List, [], ◌∷◌, ◌++◌, length, All, Option, None, refl, arith, nat_le, append_assoc, ap, sym, ◌∙◌}
+use Rattle.std.proofs.Common.{◌≡◌, ℕ, ◌<◌, ◌≤◌, Bool, true, false, cond, List, [], ◌∷◌, ◌++◌, length, All, Option, None, refl, arith, append_assoc, ap, sym, ◌∙◌}
 use Rattle.std.specs.List.{IsDistinct, AllByRecursion, list_any}
 use Rattle.std.proofs.lemmas.Bool.{or_parts, ltb-false}
 use Rattle.std.proofs.lemmas.Bool.Decides.{nat_tests}
-use Rattle.std.proofs.lemmas.List.Elements.{All-nil, All-cons, filter-append}
+use Rattle.std.proofs.lemmas.List.Elements.{All-nil, All-cons, All-head, All-tail, All-weaker, filter-append}
 use Rattle.fx_eqs.specs.Equations.{is_kept, kept}
 use Rattle.fx_math.proofs.Faults.{if_none, or_none}
+use Rattle.fx_math.proofs.Orders.{not_le, not_zero}
 use Rattle.fx_eqs.specs.Faults.{source_fault, is_forward_read, is_same_read, kept_term_fault, term_fault, terms_fault, eqs_fault}
 use Rattle.fx_eqs.specs.Fits.{SourceFits, IsThereByThen, TermFits, EquationsFit}
-use Rattle.fx_eqs.specs.Lags.{net_rows}
+use Rattle.fx_eqs.specs.Lags.{greatest_lag, net_rows}
+use Rattle.fx_eqs.specs.declared.limits.TheConstants.{PORTS, NET_ROWS, EQUATION_TERMS, LONGEST_LAG}
 use Rattle.fx_eqs.specs.declared.term.Source.{Source}
 use Rattle.fx_eqs.specs.declared.term.Source.TheVariants.{Row, In}
 use Rattle.fx_eqs.specs.declared.term.Term.{Term}
 use Rattle.fx_eqs.specs.declared.fault.EqsFault.{EqsFault}
+use Rattle.fx_eqs.proofs.Parts.{lag_low}
 
 -- ---- what no fault means
-
-not_le : (a b : ℕ) → nat_le a b ≡ false → b < a
-not_le a b h = grind (arith, nat_tests)
 
 source_none : (rows inputs place : ℕ) (from : Source) (rest : Option EqsFault) → source_fault rows inputs place from rest ≡ None → SourceFits rows inputs from × (rest ≡ None)
 source_none rows inputs place (Row j) rest e =
@@ -47,7 +47,7 @@ kept_term_none rows inputs earlier t e =
         coefficient = keeps;
         row = not_le rows t.row row.0;
         source = source.0;
-        lag = ltb-false 12 t.lag lag.0;
+        lag = ltb-false LONGEST_LAG t.lag lag.0;
         causal = there_by_then t.row t.from t.lag forward.0;
       };
       once = once.0;
@@ -105,10 +105,7 @@ once_each rows inputs earlier (t ∷ ts) e =
 
 -- ---- the system
 
-not_zero : (n : ℕ) → eqb n 0 ≡ false → 1 ≤ n
-not_zero n e = grind (arith, nat_tests)
-
-pub system_fits : (rows inputs : ℕ) (terms : List Term) (outputs : List ℕ) → 1 ≤ inputs → inputs ≤ 4 → 1 ≤ length outputs → length outputs ≤ 4 → (1 ≤ rows → All (λ o. o < rows) outputs) → eqs_fault rows inputs terms ≡ None →
+pub system_fits : (rows inputs : ℕ) (terms : List Term) (outputs : List ℕ) → 1 ≤ inputs → inputs ≤ PORTS → 1 ≤ length outputs → length outputs ≤ PORTS → (1 ≤ rows → All (λ o. o < rows) outputs) → eqs_fault rows inputs terms ≡ None →
     EquationsFit (record { rows = rows; inputs = inputs; terms = kept terms; outputs = outputs })
 system_fits rows inputs terms outputs inputs_low inputs_high outputs_low outputs_high outputs_below e =
     let each = or_none _ _ e in
@@ -118,13 +115,28 @@ system_fits rows inputs terms outputs inputs_low inputs_high outputs_low outputs
     let some = not_zero rows tests.0 in
     record {
       rows_low = some;
-      net_high = ltb-false 24 (net_rows rows inputs (kept terms)) tests.1;
+      net_high = ltb-false NET_ROWS (net_rows rows inputs (kept terms)) tests.1;
       inputs_low = inputs_low;
       inputs_high = inputs_high;
-      terms_high = ltb-false 400 (length (kept terms)) count.0;
+      terms_high = ltb-false EQUATION_TERMS (length (kept terms)) count.0;
       terms = terms_fit rows inputs [] terms each.0;
       once = once_each rows inputs [] terms each.0;
       outputs_low = outputs_low;
       outputs_high = outputs_high;
       outputs = outputs_below some;
     }
+
+-- ---- what fits
+
+-- is kept
+pub all_kept : (rows inputs : ℕ) (ts : List Term) → All (TermFits rows inputs) ts → kept ts ≡ ts
+all_kept rows inputs [] fits = refl
+all_kept rows inputs (t ∷ ts) fits =
+    let here : is_kept t ≡ true = (All-head (TermFits rows inputs) t ts fits).coefficient in
+    let rest = all_kept rows inputs ts (All-tail (TermFits rows inputs) t ts fits) in
+    ap (λ b. cond b (t ∷ kept ts) (kept ts)) here ∙ ap (λ xs. t ∷ xs) rest
+
+-- and reads no source later than a term may
+pub lag_high : (rows inputs : ℕ) (source : Source) (ts : List Term) → All (TermFits rows inputs) ts → greatest_lag source ts ≤ LONGEST_LAG
+lag_high rows inputs source ts fits =
+    lag_low source LONGEST_LAG ts (All-weaker (TermFits rows inputs) (λ t. t.lag ≤ LONGEST_LAG) (λ t f. f.lag) ts fits)

@@ -2,11 +2,10 @@
 use Rattle.std.proofs.Common.{◌≡◌, ℕ, ◌+◌, ◌*◌, ◌-◌, ◌≤◌, ◌<◌, false, None, List, [], ◌∷◌, ◌++◌, length, sym, refl, arith, subst, lit≤, lit<, eqb}
 use Rattle.std.proofs.lemmas.Bool.{ne_eqb, cond_both, cond-false, eqb-false}
 use Rattle.std.proofs.lemmas.List.Elements.{All-nil, All-cons, All-weaker}
-use Rattle.fx_nums.specs.Fraction.{Fraction}
-use Rattle.fx_eqs.specs.Expanded.{one}
+use Rattle.fx_nums.specs.Fraction.{Fraction, one_fraction, minus}
 use Rattle.fx_eqs.specs.Faults.{is_same_read, eqs_fault}
 use Rattle.fx_eqs.specs.Fits.{SourceFits, IsThereByThen}
-use Rattle.fx_eqs.specs.Textbook.{opposite, summand, over_sources, forward, backward, forward_rows, backward_rows, lattice_terms}
+use Rattle.fx_eqs.specs.Textbook.{summand, over_sources, forward, backward, forward_rows, backward_rows, lattice_terms}
 use Rattle.fx_eqs.specs.declared.term.Source.{Source}
 use Rattle.fx_eqs.specs.declared.term.Source.TheVariants.{Row, In}
 use Rattle.fx_eqs.specs.declared.term.Term.{Term}
@@ -51,9 +50,9 @@ forward_rows_in : (n i : ℕ) (cs : List Fraction) (high : ℕ) → i + length c
 forward_rows_in n i [] high all top = let same : 0 ≡ high = omega arith in subst (λ high. Block (2 * n + 1) 1 0 12 0 high []) same (block_nil (2 * n + 1) 1 0 12 0)
 forward_rows_in n i (c ∷ cs) high all top =
     let row = n - 1 - i in
-    block_append (2 * n + 1) 1 0 12 0 row high (omega arith) (omega arith) (forward_rows n (i + 1) cs) (summand row one (forward n (i + 1)) 0 ∷ summand row (opposite c) (backward n i) 1 ∷ [])
+    block_append (2 * n + 1) 1 0 12 0 row high (omega arith) (omega arith) (forward_rows n (i + 1) cs) (summand row one_fraction (forward n (i + 1)) 0 ∷ summand row (minus c) (backward n i) 1 ∷ [])
     (forward_rows_in n (i + 1) cs row (omega arith) (omega arith))
-    (pair_in (2 * n + 1) row one (opposite c) (forward n (i + 1)) (backward n i) (omega arith) (forward_read n (i + 1) row (omega arith) (omega arith)) (backward_fits n i (omega arith) (omega arith)) high (omega arith))
+    (pair_in (2 * n + 1) row one_fraction (minus c) (forward n (i + 1)) (backward n i) (omega arith) (forward_read n (i + 1) row (omega arith) (omega arith)) (backward_fits n i (omega arith) (omega arith)) high (omega arith))
 
 -- g_(i+1) reads f_i of its moment and g_i of the one before
 backward_rows_in : (n i : ℕ) (cs : List Fraction) (low : ℕ) → i + length cs ≡ n → low ≡ n + i → Block (2 * n + 1) 1 0 12 low (2 * n) (backward_rows n i cs)
@@ -61,8 +60,8 @@ backward_rows_in n i [] low all at = let same : low ≡ 2 * n = omega arith in s
 backward_rows_in n i (c ∷ cs) low all at =
     let row = n + i in
     subst (λ low. Block (2 * n + 1) 1 0 12 low (2 * n) (backward_rows n i (c ∷ cs))) (sym at)
-    (block_append (2 * n + 1) 1 0 12 row (row + 1) (2 * n) (omega arith) (omega arith) (summand row c (forward n i) 0 ∷ summand row one (backward n i) 1 ∷ []) (backward_rows n (i + 1) cs)
-    (pair_in (2 * n + 1) row c one (forward n i) (backward n i) (omega arith) (forward_read n i row (omega arith) (omega arith)) (backward_fits n i (omega arith) (omega arith)) (row + 1) refl)
+    (block_append (2 * n + 1) 1 0 12 row (row + 1) (2 * n) (omega arith) (omega arith) (summand row c (forward n i) 0 ∷ summand row one_fraction (backward n i) 1 ∷ []) (backward_rows n (i + 1) cs)
+    (pair_in (2 * n + 1) row c one_fraction (forward n i) (backward n i) (omega arith) (forward_read n i row (omega arith) (omega arith)) (backward_fits n i (omega arith) (omega arith)) (row + 1) refl)
     (backward_rows_in n (i + 1) cs (row + 1) (omega arith) (omega arith)))
 
 -- what the last row reads

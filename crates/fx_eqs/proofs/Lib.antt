@@ -1,3 +1,4 @@
+pub mod Denominators
 pub mod Distinct
 mod Examples
 pub mod ExactRows

@@ -13,6 +13,7 @@ use Rattle.fx_eqs.specs.Faults.{source_fault, is_forward_read, is_same_read, kep
 use Rattle.fx_eqs.specs.Fits.{SourceFits, IsThereByThen, TermFits}
 use Rattle.fx_eqs.specs.Lags.{net_rows}
 use Rattle.fx_eqs.specs.Laws.{WhatFitsHasNoFault}
+use Rattle.fx_eqs.specs.declared.limits.TheConstants.{NET_ROWS, EQUATION_TERMS, LONGEST_LAG}
 use Rattle.fx_eqs.specs.declared.term.Source.{Source}
 use Rattle.fx_eqs.specs.declared.term.Source.TheVariants.{Row, In}
 use Rattle.fx_eqs.specs.declared.term.Term.{Term}
@@ -36,7 +37,7 @@ no_term_fault : (rows inputs : ℕ) (earlier : List Term) (t : Term) → TermFit
 no_term_fault rows inputs earlier t fits fresh =
     none_if _ _ _ (lt-leb rows t.row fits.row)
     (no_source_fault rows inputs (length earlier) t.from _ fits.source
-    (none_if _ _ _ (le-ltb 12 t.lag fits.lag)
+    (none_if _ _ _ (le-ltb LONGEST_LAG t.lag fits.lag)
     (none_if _ _ _ (not_forward t.row t.from t.lag fits.causal)
     (none_if _ _ _ fresh refl))))
 
@@ -85,8 +86,8 @@ no_terms_fault rows inputs earlier (t ∷ ts) p = by_test (is_kept t) refl p (λ
 -- the limits of the terms that are kept
 pub record Limits (rows inputs : ℕ) (ts : List Term) : Type 0 where
   pub rows_low : 1 ≤ rows
-  pub net : net_rows rows inputs ts ≤ 24
-  pub count : length ts ≤ 400
+  pub net : net_rows rows inputs ts ≤ NET_ROWS
+  pub count : length ts ≤ EQUATION_TERMS
   pub fits : All (TermFits rows inputs) ts
   pub once : IsDistinct (λ (e t : Term). is_same_read t e) ts
 
@@ -94,8 +95,8 @@ pub no_fault : (rows inputs : ℕ) (terms : List Term) → Limits rows inputs (k
 no_fault rows inputs terms l =
     none_or _ _
     (no_terms_fault rows inputs [] terms (record { fits = l.fits; once = l.once; fresh = λ k d h. refl }))
-    (none_if _ _ _ (le-ltb 400 (length (kept terms)) l.count)
-    (none_if _ _ None (or_from _ _ (ne_eqb rows 0 (λ e. let low = l.rows_low in omega arith)) (le-ltb 24 (net_rows rows inputs (kept terms)) l.net)) refl))
+    (none_if _ _ _ (le-ltb EQUATION_TERMS (length (kept terms)) l.count)
+    (none_if _ _ None (or_from _ _ (ne_eqb rows 0 (λ e. let low = l.rows_low in omega arith)) (le-ltb NET_ROWS (net_rows rows inputs (kept terms)) l.net)) refl))
 
 pub what_fits : WhatFitsHasNoFault
 what_fits rows inputs terms outputs s = no_fault rows inputs terms (record { rows_low = s.rows_low; net = s.net_high; count = s.terms_high; fits = s.terms; once = s.once })

@@ -9,7 +9,9 @@ use Rattle.fx_nums.specs.Fraction.{Fraction}
 use Rattle.fx_eqs.specs.Equations.{is_kept, kept}
 use Rattle.fx_eqs.specs.Faults.{is_same_read, eqs_fault}
 use Rattle.fx_eqs.specs.Fits.{SourceFits, IsThereByThen}
-use Rattle.fx_eqs.specs.Lags.{same_source, greatest_lag, sum_below, net_rows}
+use Rattle.fx_math.specs.Sums.{sum_below}
+use Rattle.fx_eqs.specs.Lags.{same_source, greatest_lag, net_rows}
+use Rattle.fx_eqs.specs.declared.limits.TheConstants.{NET_ROWS, EQUATION_TERMS, LONGEST_LAG}
 use Rattle.fx_eqs.specs.Textbook.{summand, over_lags, over_sources}
 use Rattle.fx_eqs.specs.declared.term.Source.{Source}
 use Rattle.fx_eqs.specs.declared.term.Source.TheVariants.{Row, In}
@@ -104,7 +106,7 @@ length-over_sources row from lag j (c ∷ cs) = ap suc (length-over_sources row 
 -- ---- how many rows the net has
 
 -- where no lag is above a bound, nor is a greatest one
-lag_low : (source : Source) (most : ℕ) (ts : List Term) → All (λ t. t.lag ≤ most) ts → greatest_lag source ts ≤ most
+pub lag_low : (source : Source) (most : ℕ) (ts : List Term) → All (λ t. t.lag ≤ most) ts → greatest_lag source ts ≤ most
 lag_low source most [] h = omega arith
 lag_low source most (t ∷ ts) h =
     let here = All-head (λ (t : Term). t.lag ≤ most) t ts h in
@@ -187,7 +189,7 @@ module _ (rows inputs most width : ℕ) where
   }
 
   -- all rows of a system within the limits
-  pub block_has_no_fault : 1 ≤ rows → inputs * (most + 1) + rows + rows * most ≤ 24 → most ≤ 11 → rows * width ≤ 400 → (ts : List Term) → Block rows inputs most width 0 rows ts → eqs_fault rows inputs ts ≡ None
+  pub block_has_no_fault : 1 ≤ rows → inputs * (most + 1) + rows + rows * most ≤ NET_ROWS → most < LONGEST_LAG → rows * width ≤ EQUATION_TERMS → (ts : List Term) → Block rows inputs most width 0 rows ts → eqs_fault rows inputs ts ≡ None
   block_has_no_fault some net late many ts b =
       no_fault rows inputs ts (record {
         rows_low = some;

@@ -3,10 +3,10 @@ use Rattle.std.proofs.Common.{◌≡◌, ℕ, zero, suc, ◌+◌, ◌*◌, ◌-�
 use Rattle.std.proofs.lemmas.Bool.{ne_eqb}
 use Rattle.std.proofs.lemmas.List.{length-map}
 use Rattle.std.proofs.lemmas.List.Elements.{All-append, All-weaker}
-use Rattle.fx_nums.specs.Fraction.{Fraction}
+use Rattle.fx_nums.specs.Fraction.{Fraction, minus}
 use Rattle.fx_eqs.specs.Faults.{is_same_read, eqs_fault}
 use Rattle.fx_eqs.specs.Lags.{same_source}
-use Rattle.fx_eqs.specs.Textbook.{opposite, over_lags, recursion, tf_terms, sections, sos_terms}
+use Rattle.fx_eqs.specs.Textbook.{over_lags, recursion, tf_terms, sections, sos_terms}
 use Rattle.fx_eqs.specs.declared.term.Source.{Source}
 use Rattle.fx_eqs.specs.declared.term.Source.TheVariants.{Row, In}
 use Rattle.fx_eqs.specs.declared.term.Term.{Term}
@@ -29,9 +29,9 @@ recursion_in : (rows inputs most width row : ℕ) (from : Source) (b a : List Fr
     Block rows inputs most width row (row + 1) (recursion row from b a)
 recursion_in rows inputs most width row from b a h before short_b short_a few =
     let front = over_lags row from 0 b in
-    let fed = map opposite (drop 1 a) in
+    let fed = map minus (drop 1 a) in
     let back = over_lags row (Row row) 1 fed in
-    let long : length fed ≡ length a - 1 = rw (length-map (drop 1 a) opposite) (length-drop 1 a) in
+    let long : length fed ≡ length a - 1 = rw (length-map (drop 1 a) minus) (length-drop 1 a) in
     let fronts = lag_terms row from 0 b (most + 2) (omega arith) in
     let backs = lag_terms row (Row row) 1 fed (most + 2) (omega arith) in
     record {

@@ -1,9 +1,14 @@
--- A denominator of all coefficients of an equation system.
-use Rattle.std.specs.Prelude.{ℕ, ◌*◌, ◌^◌, max, List, [], ◌∷◌}
+-- Denominators of all coefficients of an equation system.
+use Rattle.std.specs.Prelude.{ℕ, ◌*◌, ◌^◌, max, List, [], ◌∷◌, All}
+use Rattle.fx_nums.specs.Fraction.{IsWholeOver}
 use Rattle.fx_nums.specs.declared.fraction.Den.{Den}
 use Rattle.fx_nums.specs.declared.fraction.Den.TheVariants.{Two, Ten}
 use Rattle.fx_eqs.specs.Equations.{Equations}
 use Rattle.fx_eqs.specs.declared.term.Term.{Term}
+
+-- the denominator of each term's coefficient divides g
+abbrev pub DividesEach : ℕ → List Term → Type 0
+DividesEach g terms = All (λ (t : Term). IsWholeOver g t.coef) terms
 
 -- the power of two in a denominator, and the power of ten; each is 1 where there is none
 abbrev pub two_part : Den → ℕ

@@ -1,5 +1,6 @@
 -- The exact values of an equation system, over a common denominator that grows with each row.
 use Rattle.std.specs.Prelude.{ℕ, zero, suc, ◌+◌, ◌-◌, ◌*◌, ◌^◌, ◌==◌, if◌then◌else◌, ℤ, pos, ◌+ℤ◌, ◌*ℤ◌, List, [], ◌∷◌}
+use Rattle.fx_math.specs.Ratio.{Ratio}
 use Rattle.fx_math.specs.Unroll.{fill, lagged}
 use Rattle.fx_nums.specs.Fraction.{over}
 use Rattle.fx_eqs.specs.Equations.{Equations}
@@ -31,6 +32,10 @@ past_values eqs q u zero l j = pos 0
 past_values eqs q u (suc k) zero j = fill (λ i now. terms_sum eqs q u k i (with_now now (past_values eqs q u k)) eqs.terms) eqs.rows j
 past_values eqs q u (suc k) (suc l) j = past_values eqs q u k l j
 
--- row i at moment k has the value exact_value eqs q u k i / q ^ (k * rows + i + 1), in input steps
+-- row i at moment k, as that whole number
 abbrev pub exact_value : Equations → ℕ → (ℕ → ℕ → ℤ) → ℕ → ℕ → ℤ
 exact_value eqs q u k i = past_values eqs q u (suc k) zero i
+
+-- the value of row i at moment k, in input steps
+abbrev pub row_value : Equations → ℕ → (ℕ → ℕ → ℤ) → ℕ → ℕ → Ratio
+row_value eqs q u k i = record { num = exact_value eqs q u k i; den = q ^ (k * eqs.rows + i + 1) }

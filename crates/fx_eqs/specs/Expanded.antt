@@ -1,9 +1,9 @@
 -- The expanded net of an equation system: rows that read rows of this moment or the one before, and inputs of this moment.
-use Rattle.std.specs.Prelude.{ℕ, zero, suc, ◌+◌, ◌-◌, ◌==◌, pos, List, [], ◌∷◌, ◌++◌, map, filter}
-use Rattle.fx_nums.specs.Fraction.{Fraction}
-use Rattle.fx_nums.specs.declared.fraction.Den.TheVariants.{Ten}
+use Rattle.std.specs.Prelude.{ℕ, zero, suc, ◌+◌, ◌-◌, ◌==◌, List, [], ◌∷◌, ◌++◌, map, filter}
+use Rattle.fx_math.specs.Sums.{sum_below, joined}
+use Rattle.fx_nums.specs.Fraction.{Fraction, one_fraction}
 use Rattle.fx_eqs.specs.Equations.{Equations}
-use Rattle.fx_eqs.specs.Lags.{greatest_lag, sum_below}
+use Rattle.fx_eqs.specs.Lags.{greatest_lag}
 use Rattle.fx_eqs.specs.declared.term.Source.{Source}
 use Rattle.fx_eqs.specs.declared.term.Source.TheVariants.{Row, In as Input}
 use Rattle.fx_eqs.specs.declared.term.Term.{Term}
@@ -17,9 +17,6 @@ pub data NetRead : Type 0 where
 pub record NetTerm : Type 0 where
   pub coef : Fraction
   pub from : NetRead
-
-abbrev pub one : Fraction
-one = record { num = pos 1; den = Ten 0 }
 
 -- ---- the order: rows that hold inputs, the rows of the equations, rows that hold rows
 
@@ -48,15 +45,10 @@ net_read s (Row j) (suc (suc l)) = Old (row_hold_place s j + l)
 -- so many rows from a place on: the first holds what is read, each further one what the one before it held
 abbrev pub hold_rows : NetRead → ℕ → ℕ → List (List NetTerm)
 hold_rows from zero place = []
-hold_rows from (suc count) place = (record { coef = one; from = from } ∷ []) ∷ hold_rows (Old place) count (place + 1)
+hold_rows from (suc count) place = (record { coef = one_fraction; from = from } ∷ []) ∷ hold_rows (Old place) count (place + 1)
 
 abbrev pub equation_row : Equations → ℕ → List NetTerm
 equation_row s i = map (λ (t : Term). record { coef = t.coef; from = net_read s t.from t.lag }) (filter (λ (t : Term). t.row == i) s.terms)
-
--- f 0, f 1, .., f (n - 1) one behind the other
-abbrev pub joined : ℕ → (ℕ → List (List NetTerm)) → List (List NetTerm)
-joined zero f = []
-joined (suc n) f = joined n f ++ f n
 
 -- the rows in their order, each a list of its terms
 abbrev pub expanded : Equations → List (List NetTerm)

@@ -1,10 +1,11 @@
--- The first fault of an equation system, and the fault that an answer tells.
-use Rattle.std.specs.Prelude.{ℕ, nat_lt, nat_le, ◌==◌, Bool, false, ◌&&◌, ◌||◌, cond, List, [], ◌∷◌, ◌++◌, length, Option, Some, None, Result, Ok, Err}
+-- The first fault of an equation system.
+use Rattle.std.specs.Prelude.{ℕ, nat_lt, nat_le, ◌==◌, Bool, true, false, ◌&&◌, ◌||◌, cond, List, [], ◌∷◌, ◌++◌, length, Option, Some, None}
 use Rattle.std.specs.Option.{option_or}
 use Rattle.std.specs.List.{list_any}
 use Rattle.fx_math.specs.Faults.{fault_if}
 use Rattle.fx_eqs.specs.Equations.{is_kept, kept}
 use Rattle.fx_eqs.specs.Lags.{same_source, net_rows}
+use Rattle.fx_eqs.specs.declared.limits.TheConstants.{NET_ROWS, EQUATION_TERMS, LONGEST_LAG}
 use Rattle.fx_eqs.specs.declared.term.Source.{Source}
 use Rattle.fx_eqs.specs.declared.term.Source.TheVariants.{Row, In}
 use Rattle.fx_eqs.specs.declared.term.Term.{Term}
@@ -39,7 +40,7 @@ abbrev pub kept_term_fault : ℕ → ℕ → List Term → Term → Option EqsFa
 kept_term_fault rows inputs earlier t =
     let place = length earlier in
     range_fault rows inputs place t (
-    fault_if (nat_lt 12 t.lag) (LagRange place) (
+    fault_if (nat_lt LONGEST_LAG t.lag) (LagRange place) (
     fault_if (is_forward t) (ForwardNow place) (
     fault_if (list_any (is_same_read t) (kept earlier)) (Twice place) None)))
 
@@ -60,23 +61,12 @@ eqs_fault rows inputs terms =
     let count = length (kept terms) in
     let net = net_rows rows inputs (kept terms) in
     option_or (terms_fault rows inputs [] terms) (
-    fault_if (nat_lt 400 count) (TooManyTerms count) (
-    fault_if (rows == 0 || nat_lt 24 net) (TooManyRows net) None))
+    fault_if (nat_lt EQUATION_TERMS count) (TooManyTerms count) (
+    fault_if (rows == 0 || nat_lt NET_ROWS net) (TooManyRows net) None))
 
 -- ---- an answer
 
--- the fault that an error tells: none where memory was refused
-abbrev pub told : EqsFault → Option EqsFault
-told NoMemory = None
-told (ForwardNow place) = Some (ForwardNow place)
-told (RowRange place) = Some (RowRange place)
-told (InputRange place) = Some (InputRange place)
-told (LagRange place) = Some (LagRange place)
-told (TooManyTerms count) = Some (TooManyTerms count)
-told (TooManyRows count) = Some (TooManyRows count)
-told (Twice place) = Some (Twice place)
-
--- the fault that an answer tells: none where the system was made
-abbrev pub fault_told : {T : Type 0} → Result T EqsFault → Option EqsFault
-fault_told (Ok x) = None
-fault_told (Err fault) = told fault
+-- only want of memory
+abbrev pub is_memory : EqsFault → Bool
+is_memory NoMemory = true
+is_memory _ = false

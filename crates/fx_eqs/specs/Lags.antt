@@ -1,5 +1,6 @@
 -- The greatest lags of the sources, and the rows that hold what was read before.
-use Rattle.std.specs.Prelude.{ℕ, zero, suc, ◌+◌, ◌-◌, ◌==◌, max, Bool, false, if◌then◌else◌, List, [], ◌∷◌}
+use Rattle.std.specs.Prelude.{ℕ, ◌+◌, ◌-◌, ◌==◌, max, Bool, false, if◌then◌else◌, List, [], ◌∷◌}
+use Rattle.fx_math.specs.Sums.{sum_below}
 use Rattle.fx_eqs.specs.declared.term.Source.{Source}
 use Rattle.fx_eqs.specs.declared.term.Source.TheVariants.{Row, In}
 use Rattle.fx_eqs.specs.declared.term.Term.{Term}
@@ -14,11 +15,6 @@ same_source _ _ = false
 abbrev pub greatest_lag : Source → List Term → ℕ
 greatest_lag source [] = 0
 greatest_lag source (t ∷ ts) = max (if same_source t.from source then t.lag else 0) (greatest_lag source ts)
-
--- f 0 + f 1 + .. + f (n - 1)
-abbrev pub sum_below : ℕ → (ℕ → ℕ) → ℕ
-sum_below zero f = 0
-sum_below (suc n) f = sum_below n f + f n
 
 -- the rows of the net: for each input as many as its greatest lag, the rows, and for each row one less than its greatest lag
 abbrev pub net_rows : ℕ → ℕ → List Term → ℕ

@@ -1,6 +1,7 @@
 -- What the laws of this crate say.
-use Rattle.std.specs.Prelude.{◌≡◌, ℕ, ◌<◌, ℤ, List, None}
+use Rattle.std.specs.Prelude.{◌≡◌, ℕ, ◌*◌, ◌<◌, ℤ, List, None}
 use Rattle.fx_math.specs.Unroll.{lagged}
+use Rattle.fx_eqs.specs.Denominator.{DividesEach, common}
 use Rattle.fx_eqs.specs.Equations.{Equations, kept}
 use Rattle.fx_eqs.specs.ExactRun.{exact_value, terms_sum}
 use Rattle.fx_eqs.specs.Faults.{eqs_fault}
@@ -16,3 +17,7 @@ MeetsEquations s =
 abbrev pub WhatFitsHasNoFault : Type 0
 WhatFitsHasNoFault =
     (rows inputs : ℕ) (terms : List Term) (outputs : List ℕ) → EquationsFit (record { rows = rows; inputs = inputs; terms = kept terms; outputs = outputs }) → eqs_fault rows inputs terms ≡ None
+
+-- the common denominator is positive, and each multiple of it is one of every coefficient
+abbrev pub CommonDividesEach : Type 0
+CommonDividesEach = (eqs : Equations) → (0 < common eqs) × ((m : ℕ) → DividesEach (common eqs * m) eqs.terms)

@@ -1,15 +1,11 @@
 -- The equations of the four forms of a filter: the terms in the order written, coefficients 0 among them, and the system
 -- of those that are kept.
-use Rattle.std.specs.Prelude.{ℕ, zero, suc, ◌+◌, ◌-◌, ◌*◌, ◌/◌, ◌==◌, if◌then◌else◌, neg_ℤ, List, [], ◌∷◌, ◌++◌, length, map, take, drop}
-use Rattle.fx_nums.specs.Fraction.{Fraction}
+use Rattle.std.specs.Prelude.{ℕ, zero, suc, ◌+◌, ◌-◌, ◌*◌, ◌/◌, ◌==◌, if◌then◌else◌, List, [], ◌∷◌, ◌++◌, length, map, take, drop}
+use Rattle.fx_nums.specs.Fraction.{Fraction, one_fraction, minus}
 use Rattle.fx_eqs.specs.Equations.{Equations, kept}
-use Rattle.fx_eqs.specs.Expanded.{one}
 use Rattle.fx_eqs.specs.declared.term.Source.{Source}
 use Rattle.fx_eqs.specs.declared.term.Source.TheVariants.{Row, In}
 use Rattle.fx_eqs.specs.declared.term.Term.{Term}
-
-abbrev pub opposite : Fraction → Fraction
-opposite c = record { num = neg_ℤ c.num; den = c.den }
 
 -- a row's term: a coefficient times a source at a lag
 abbrev pub summand : ℕ → Fraction → Source → ℕ → Term
@@ -27,7 +23,7 @@ over_sources row from lag j (c ∷ cs) = summand row c (from j) lag ∷ over_sou
 
 -- y(k) = b0 x(k) + b1 x(k-1) + .. - a1 y(k-1) - a2 y(k-2) - ..
 abbrev pub recursion : ℕ → Source → List Fraction → List Fraction → List Term
-recursion row x b a = over_lags row x 0 b ++ over_lags row (Row row) 1 (map opposite (drop 1 a))
+recursion row x b a = over_lags row x 0 b ++ over_lags row (Row row) 1 (map minus (drop 1 a))
 
 -- ---- transfer function: numerator b and denominator a, whose first entry is 1
 
@@ -87,13 +83,13 @@ backward n i = if n == 0 then In 0 else Row (n - 1 + i)
 abbrev pub forward_rows : ℕ → ℕ → List Fraction → List Term
 forward_rows n i [] = []
 forward_rows n i (c ∷ cs) =
-    forward_rows n (i + 1) cs ++ summand (n - 1 - i) one (forward n (i + 1)) 0 ∷ summand (n - 1 - i) (opposite c) (backward n i) 1 ∷ []
+    forward_rows n (i + 1) cs ++ summand (n - 1 - i) one_fraction (forward n (i + 1)) 0 ∷ summand (n - 1 - i) (minus c) (backward n i) 1 ∷ []
 
 -- g_(i+1)(k) = k_(i+1) f_i(k) + g_i(k-1), from i = 0 up
 abbrev pub backward_rows : ℕ → ℕ → List Fraction → List Term
 backward_rows n i [] = []
 backward_rows n i (c ∷ cs) =
-    summand (n + i) c (forward n i) 0 ∷ summand (n + i) one (backward n i) 1 ∷ backward_rows n (i + 1) cs
+    summand (n + i) c (forward n i) 0 ∷ summand (n + i) one_fraction (backward n i) 1 ∷ backward_rows n (i + 1) cs
 
 -- and y(k) = v0 g_0(k) + v1 g_1(k) + .. + vN g_N(k)
 abbrev pub lattice_terms : List Fraction → List Fraction → List Term

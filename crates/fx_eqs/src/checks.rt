@@ -1,11 +1,13 @@
 ghost use Rattle.std.specs.Prelude.{◌≡◌, ◌+◌, ◌*◌, ◌-◌, ◌<◌, ◌≤◌, ◌^◌, [], length, IfOk, None, count_by, filter};
 ghost use Rattle.std.specs.List.{list_any};
-ghost use Rattle.fx_eqs.specs.Lags.{greatest_lag, net_rows, sum_below};
+ghost use Rattle.fx_math.specs.Sums.{sum_below};
+ghost use Rattle.fx_eqs.specs.Lags.{greatest_lag, net_rows};
 ghost use Rattle.fx_eqs.specs.Equations.{is_kept};
 ghost use Rattle.fx_eqs.specs.Faults.{eqs_fault, is_forward, is_same_read, range_fault, term_fault, terms_fault};
 ghost use Rattle.fx_eqs.specs.declared.term.Source.TheVariants.{Row, In};
 
 use crate::fault::EqsFault;
+use crate::limits::{EQUATION_TERMS, LONGEST_LAG, NET_ROWS, PORTS};
 use crate::term::{Source, Term};
 use std::alloc::{AllocError, Global};
 
@@ -71,7 +73,7 @@ fn term_fault(rows: usize, inputs: usize, earlier: &[Term], term: &Term) -> Opti
     if let Some(fault) = range_fault(rows, inputs, place, term) {
         return Some(fault);
     }
-    if term.lag > 12 {
+    if term.lag > LONGEST_LAG {
         return Some(EqsFault::LagRange(place));
     }
     if is_forward(term) {
@@ -110,8 +112,8 @@ fn kept_count(terms: &[Term]) -> usize
     count
 }
 
-// The greatest lag at which a kept term reads a source; 0 where none does.
-fn greatest_lag(source: Source, terms: &[Term]) -> usize
+/// The greatest lag at which a kept term reads a source; 0 where none does.
+pub fn greatest_lag(source: Source, terms: &[Term]) -> usize
     ensures value { result ≡ greatest_lag source (filter is_kept terms.now) }
     ensures high { result ≤ 255 }
 {
@@ -126,7 +128,7 @@ fn greatest_lag(source: Source, terms: &[Term]) -> usize
 
 // The rows that hold the inputs.
 fn input_holds(inputs: usize, terms: &[Term]) -> usize
-    requires { inputs ≤ 4 }
+    requires { inputs ≤ PORTS }
     ensures value { result ≡ sum_below inputs (λ j. greatest_lag (In j) (filter is_kept terms.now)) }
     ensures high { result ≤ 255 * inputs }
 {
@@ -153,7 +155,7 @@ fn row_holds(rows: usize, terms: &[Term]) -> usize
 /// How many rows the expanded net has.
 pub fn net_rows(rows: usize, inputs: usize, terms: &[Term]) -> usize
     requires rows { rows ≤ 256 }
-    requires inputs { inputs ≤ 4 }
+    requires inputs { inputs ≤ PORTS }
     ensures { result ≡ net_rows rows inputs (filter is_kept terms.now) }
 {
     input_holds(inputs, terms) + rows + row_holds(rows, terms)
@@ -162,7 +164,7 @@ pub fn net_rows(rows: usize, inputs: usize, terms: &[Term]) -> usize
 /// The first fault of an equation system.
 pub fn eqs_fault(rows: usize, inputs: usize, terms: &[Term]) -> Option<EqsFault>
     requires rows { rows ≤ 256 }
-    requires inputs { inputs ≤ 4 }
+    requires inputs { inputs ≤ PORTS }
     requires terms { length terms.now < 2 ^ 32 }
     ensures { result ≡ eqs_fault rows inputs terms.now }
 {
@@ -170,11 +172,11 @@ pub fn eqs_fault(rows: usize, inputs: usize, terms: &[Term]) -> Option<EqsFault>
         return Some(fault);
     }
     let count = kept_count(terms);
-    if count > 400 {
+    if count > EQUATION_TERMS {
         return Some(EqsFault::TooManyTerms(count));
     }
     let net = net_rows(rows, inputs, terms);
-    if rows == 0 || net > 24 {
+    if rows == 0 || net > NET_ROWS {
         return Some(EqsFault::TooManyRows(net));
     }
     None

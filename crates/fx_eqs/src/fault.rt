@@ -7,11 +7,11 @@ pub enum EqsFault {
     RowRange(u32),
     /// The input that the term reads is not below the count of inputs.
     InputRange(u32),
-    /// The term's lag is above 12.
+    /// The term's lag is above `LONGEST_LAG`.
     LagRange(u32),
-    /// So many terms with a coefficient other than 0: more than 400.
+    /// So many terms with a coefficient other than 0: more than `EQUATION_TERMS`.
     TooManyTerms(usize),
-    /// So many rows of the expanded net: more than 24, or 0 where there are no rows.
+    /// So many rows of the expanded net: more than `NET_ROWS`, or 0 where there are no rows.
     TooManyRows(usize),
     /// An earlier term has the same row, source and lag.
     Twice(u32),

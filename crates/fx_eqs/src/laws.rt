@@ -1,8 +1,9 @@
 ghost use Rattle.std.specs.Prelude.{◌≡◌, ◌+◌, ◌*◌, ◌≤◌, length, None};
 ghost use Rattle.fx_eqs.specs.Faults.{eqs_fault};
-ghost use Rattle.fx_eqs.specs.Laws.{WhatFitsHasNoFault};
+ghost use Rattle.fx_eqs.specs.Laws.{CommonDividesEach, WhatFitsHasNoFault};
 ghost use Rattle.fx_eqs.specs.Textbook.{lattice_terms, sos_terms, ss_terms, tf_terms};
 
+use crate::limits::{COEFFICIENTS, PORTS, REFLECTIONS, SECTIONS, STATES};
 use fx_nums::Frac;
 
 /// A law with nothing to run: terms are never refused where those with a coefficient other than 0 make a system within
@@ -11,25 +12,25 @@ pub fn what_fits_has_no_fault()
     ensures { WhatFitsHasNoFault }
 {}
 
-/// A law with nothing to run: the terms of a transfer function with at most 13 coefficients above and below are never
-/// refused.
+/// A law with nothing to run: the terms of a transfer function with at most `COEFFICIENTS` coefficients above and below are
+/// never refused.
 pub fn transfer_functions_have_no_fault(b: &[Frac], a: &[Frac])
-    requires b_high { length b.now ≤ 13 }
-    requires a_high { length a.now ≤ 13 }
+    requires b_high { length b.now ≤ COEFFICIENTS }
+    requires a_high { length a.now ≤ COEFFICIENTS }
     ensures { eqs_fault 1 1 (tf_terms b.now a.now) ≡ None }
 {}
 
-/// A law with nothing to run: the terms of one to eight second-order sections, of six coefficients each, are never
+/// A law with nothing to run: the terms of one to `SECTIONS` second-order sections, of six coefficients each, are never
 /// refused.
 pub fn cascades_have_no_fault(count: usize, sections: &[Frac])
     requires low { 1 ≤ count }
-    requires high { count ≤ 8 }
+    requires high { count ≤ SECTIONS }
     requires whole { length sections.now ≡ 6 * count }
     ensures { eqs_fault count 1 (sos_terms sections.now) ≡ None }
 {}
 
-/// A law with nothing to run: the terms of a state space with at most 16 states, at most 4 inputs and 1 to 4 outputs
-/// are never refused, however many entries the matrices have.
+/// A law with nothing to run: the terms of a state space with at most `STATES` states, at most `PORTS` inputs and 1 to
+/// `PORTS` outputs are never refused, however many entries the matrices have.
 pub fn state_spaces_have_no_fault(
     n: usize,
     m: usize,
@@ -39,17 +40,23 @@ pub fn state_spaces_have_no_fault(
     c: &[Frac],
     d: &[Frac],
 )
-    requires states { n ≤ 16 }
-    requires inputs { m ≤ 4 }
+    requires states { n ≤ STATES }
+    requires inputs { m ≤ PORTS }
     requires outputs_low { 1 ≤ p }
-    requires outputs_high { p ≤ 4 }
+    requires outputs_high { p ≤ PORTS }
     ensures { eqs_fault (n + p) m (ss_terms n m p a.now b.now c.now d.now) ≡ None }
 {}
 
-/// A law with nothing to run: the terms of a lattice with at most 11 reflection coefficients, and no more than one tap
-/// beyond these, are never refused.
+/// A law with nothing to run: the terms of a lattice with at most `REFLECTIONS` reflection coefficients, and no more
+/// than one tap beyond these, are never refused.
 pub fn lattices_have_no_fault(k: &[Frac], v: &[Frac])
-    requires order { length k.now ≤ 11 }
+    requires order { length k.now ≤ REFLECTIONS }
     requires taps { length v.now ≤ length k.now + 1 }
     ensures { eqs_fault (2 * length k.now + 1) 1 (lattice_terms k.now v.now) ≡ None }
+{}
+
+/// A law with nothing to run: the product of the greatest powers of two and of ten among the denominators of a system is
+/// positive, and it and each of its multiples is a denominator of every coefficient of the system.
+pub fn common_divides_each()
+    ensures { CommonDividesEach }
 {}

@@ -1,14 +1,16 @@
 ghost use Rattle.std.specs.Prelude.{◌≡◌, ◌<◌, ◌≤◌, ◌^◌, length, All, IfOk, filter};
 ghost use Rattle.fx_eqs.specs.Equations.{Equations, kept};
 ghost use Rattle.fx_eqs.specs.Expanded.{expanded};
-ghost use Rattle.fx_eqs.specs.Faults.{eqs_fault, fault_told};
+ghost use Rattle.fx_math.specs.Answers.{fault_told};
+ghost use Rattle.fx_eqs.specs.Faults.{eqs_fault, is_memory};
 ghost use Rattle.fx_eqs.specs.Fits.{EquationsFit, TermFits};
-ghost use Rattle.fx_eqs.specs.Lags.{net_rows};
+ghost use Rattle.fx_eqs.specs.Lags.{greatest_lag, net_rows};
 ghost use Rattle.fx_eqs.specs.Laws.{MeetsEquations};
 
-use crate::checks::{eqs_fault, kept_terms, net_rows};
+use crate::checks::{eqs_fault, greatest_lag, kept_terms, net_rows};
 use crate::fault::EqsFault;
-use crate::term::Term;
+use crate::limits::{EQUATION_TERMS, LONGEST_LAG, NET_ROWS, PORTS};
+use crate::term::{Source, Term};
 use std::alloc::{AllocError, Global};
 use std::marker::Model;
 
@@ -49,12 +51,12 @@ impl Eqs {
         requires rows { rows ≤ 256 }
         requires terms { length terms.now < 2 ^ 32 }
         requires inputs_low { 1 ≤ inputs }
-        requires inputs_high { inputs ≤ 4 }
+        requires inputs_high { inputs ≤ PORTS }
         requires outputs_low { 1 ≤ length outputs.now }
-        requires outputs_high { length outputs.now ≤ 4 }
+        requires outputs_high { length outputs.now ≤ PORTS }
         requires outputs_below { 1 ≤ rows → All (λ o. o < rows) outputs.now }
         ensures ok { IfOk result (λ s. s ≡ record { rows = rows; inputs = inputs; terms = kept terms.now; outputs = outputs.now }) }
-        ensures fault { eqs_fault rows inputs terms.now ≡ fault_told result }
+        ensures fault { eqs_fault rows inputs terms.now ≡ fault_told is_memory result }
     {
         if let Some(fault) = eqs_fault(rows, inputs, terms) {
             return Err(fault);
@@ -74,52 +76,60 @@ impl Eqs {
         })
     }
 
-    /// How many rows there are: 1 to 24.
+    /// How many rows there are: 1 to `NET_ROWS`.
     pub fn rows(&self) -> usize
         ensures value { result ≡ self.now.rows }
         ensures low { 1 ≤ result }
-        ensures high { result ≤ 24 }
+        ensures high { result ≤ NET_ROWS }
     {
         self.rows
     }
 
-    /// How many inputs there are: 1 to 4.
+    /// How many inputs there are: 1 to `PORTS`.
     pub fn inputs(&self) -> usize
         ensures value { result ≡ self.now.inputs }
         ensures low { 1 ≤ result }
-        ensures high { result ≤ 4 }
+        ensures high { result ≤ PORTS }
     {
         self.inputs
     }
 
-    /// The rows that are put out, in the order of the outputs: 1 to 4, each below the count of rows.
+    /// The rows that are put out, in the order of the outputs: 1 to `PORTS`, each below the count of rows.
     pub fn outputs(&self) -> &[u8]
         ensures value { result.now ≡ self.now.outputs }
         ensures low { 1 ≤ length result.now }
-        ensures high { length result.now ≤ 4 }
+        ensures high { length result.now ≤ PORTS }
         ensures fits { All (λ o. o < self.now.rows) result.now }
     {
         &self.outputs
     }
 
-    /// The terms in their order: at most 400.
+    /// The terms in their order: at most `EQUATION_TERMS`.
     pub fn terms(&self) -> &[Term]
         ensures value { result.now ≡ self.now.terms }
-        ensures high { length result.now ≤ 400 }
+        ensures high { length result.now ≤ EQUATION_TERMS }
         ensures fits { All (TermFits self.now.rows self.now.inputs) result.now }
     {
         &self.terms
     }
 
-    /// How many rows the expanded net has: at most 24. Each of its rows reads rows of this moment or of the one
-    /// before, and inputs of this moment.
+    /// How many rows the expanded net has: at most `NET_ROWS`. Each of its rows reads rows of this moment or of the
+    /// one before, and inputs of this moment.
     pub fn net_rows(&self) -> usize
         ensures value { result ≡ length (expanded self.now) }
         ensures count { result ≡ net_rows self.now.rows self.now.inputs self.now.terms }
         ensures low { self.now.rows ≤ result }
-        ensures high { result ≤ 24 }
+        ensures high { result ≤ NET_ROWS }
     {
         self.net_rows
+    }
+
+    /// The greatest lag at which the terms read a source: at most `LONGEST_LAG`, and 0 where none does.
+    pub fn greatest_lag(&self, source: Source) -> usize
+        ensures value { result ≡ greatest_lag source self.now.terms }
+        ensures high { result ≤ LONGEST_LAG }
+    {
+        greatest_lag(source, &self.terms)
     }
 
     /// An equal system. Its error is want of memory.

@@ -16,6 +16,6 @@ pub struct Term {
     pub row: u8,
     pub coef: Frac,
     pub from: Source,
-    /// Moments before: 0 to 12, and from 1 on where the source is this row or a later one.
+    /// Moments before: 0 to `LONGEST_LAG`, and from 1 on where the source is this row or a later one.
     pub lag: u8,
 }

@@ -1,10 +1,9 @@
 -- Equations over coefficients with powers of ten below them have such coefficients themselves.
 use Rattle.std.proofs.Common.{ℕ, zero, suc, ◌+◌, ◌-◌, ◌*◌, ◌/◌, List, [], ◌∷◌, ◌++◌, length, take, drop, map, refl, All}
 use Rattle.std.proofs.lemmas.List.Elements.{All-nil, All-cons, All-head, All-tail, All-append, All-map, All-take, All-drop, All-filter}
-use Rattle.fx_nums.specs.Fraction.{Fraction}
+use Rattle.fx_nums.specs.Fraction.{Fraction, one_fraction, minus}
 use Rattle.fx_eqs.specs.Equations.{is_kept}
-use Rattle.fx_eqs.specs.Expanded.{one}
-use Rattle.fx_eqs.specs.Textbook.{backward, backward_rows, forward, forward_rows, lattice_terms, matrix_rows, opposite, over_lags, over_sources, recursion, sections, ss_terms, summand, tf_terms}
+use Rattle.fx_eqs.specs.Textbook.{backward, backward_rows, forward, forward_rows, lattice_terms, matrix_rows, over_lags, over_sources, recursion, sections, ss_terms, summand, tf_terms}
 use Rattle.fx_eqs.specs.declared.term.Source.{Source}
 use Rattle.fx_eqs.specs.declared.term.Source.TheVariants.{Row, In}
 use Rattle.fx_eqs.specs.declared.term.Term.{Term}
@@ -30,9 +29,9 @@ over_sources_kept row from lag j (c ∷ cs) h =
 
 recursion_kept : (row : ℕ) (from : Source) (b a : List Fraction) → All OverTen b → All OverTen a → All TermOverTen (recursion row from b a)
 recursion_kept row from b a p q =
-    All-append TermOverTen (over_lags row from 0 b) (over_lags row (Row row) 1 (map opposite (drop 1 a)))
+    All-append TermOverTen (over_lags row from 0 b) (over_lags row (Row row) 1 (map minus (drop 1 a)))
     (over_lags_kept row from 0 b p)
-    (over_lags_kept row (Row row) 1 (map opposite (drop 1 a)) (All-map OverTen opposite (drop 1 a) (All-drop OverTen 1 a q)))
+    (over_lags_kept row (Row row) 1 (map minus (drop 1 a)) (All-map OverTen minus (drop 1 a) (All-drop OverTen 1 a q)))
 
 sections_kept : (count row : ℕ) (from : Source) (cs : List Fraction) → All OverTen cs → All TermOverTen (sections count row from cs)
 sections_kept zero row from cs h = All-nil TermOverTen
@@ -54,8 +53,8 @@ rows_kept (suc count) row n m x u p q =
 forward_kept : (n i : ℕ) (cs : List Fraction) → All OverTen cs → All TermOverTen (forward_rows n i cs)
 forward_kept n i [] h = All-nil TermOverTen
 forward_kept n i (c ∷ cs) h =
-    let unit = summand (n - 1 - i) one (forward n (i + 1)) 0 in
-    let back = summand (n - 1 - i) (opposite c) (backward n i) 1 in
+    let unit = summand (n - 1 - i) one_fraction (forward n (i + 1)) 0 in
+    let back = summand (n - 1 - i) (minus c) (backward n i) 1 in
     All-append TermOverTen (forward_rows n (i + 1) cs) (unit ∷ back ∷ [])
     (forward_kept n (i + 1) cs (All-tail OverTen c cs h))
     (All-cons TermOverTen unit (back ∷ []) refl (All-cons TermOverTen back [] (All-head OverTen c cs h) (All-nil TermOverTen)))
@@ -64,7 +63,7 @@ backward_kept : (n i : ℕ) (cs : List Fraction) → All OverTen cs → All Term
 backward_kept n i [] h = All-nil TermOverTen
 backward_kept n i (c ∷ cs) h =
     let front = summand (n + i) c (forward n i) 0 in
-    let unit = summand (n + i) one (backward n i) 1 in
+    let unit = summand (n + i) one_fraction (backward n i) 1 in
     let rest = backward_rows n (i + 1) cs in
     All-cons TermOverTen front (unit ∷ rest) (All-head OverTen c cs h) (All-cons TermOverTen unit rest refl (backward_kept n (i + 1) cs (All-tail OverTen c cs h)))
 

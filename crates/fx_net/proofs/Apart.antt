@@ -5,13 +5,14 @@ use Rattle.std.specs.List.{IsDistinct}
 use Rattle.std.proofs.lemmas.Bool.{cases_eq, cases_lt, eq-eqb, and_from, cond-false, not-true}
 use Rattle.std.proofs.lemmas.List.Elements.{All-head, All-tail}
 use Rattle.std.proofs.lemmas.Map.Keys.{IsDistinct-tail}
+use Rattle.fx_math.specs.Sums.{sum_below}
 use Rattle.fx_eqs.proofs.Distinct.{distinct_head}
 use Rattle.fx_eqs.specs.Equations.{Equations, is_kept}
 use Rattle.fx_eqs.specs.Expanded.{net_read, row_place}
 use Rattle.fx_eqs.specs.Expanded.NetRead.{Old}
 use Rattle.fx_eqs.specs.Faults.{is_same_read}
 use Rattle.fx_eqs.specs.Fits.{TermFits}
-use Rattle.fx_eqs.specs.Lags.{greatest_lag, same_source, sum_below}
+use Rattle.fx_eqs.specs.Lags.{greatest_lag, same_source}
 use Rattle.fx_eqs.specs.declared.term.Source.{Source}
 use Rattle.fx_eqs.specs.declared.term.Source.TheVariants.{Row, In as Input}
 use Rattle.fx_eqs.specs.declared.term.Term.{Term}

@@ -5,10 +5,10 @@ use Rattle.std.proofs.Math.Nat.{pow-suc, pow-zero}
 use Rattle.std.proofs.lemmas.Int.{ints}
 use Rattle.std.proofs.lemmas.Nat.{pow-add}
 use Rattle.fx_math.proofs.Ring.{mul_comm, mul_assoc}
-use Rattle.fx_math.specs.Unroll.{lagged}
+use Rattle.fx_math.specs.Unroll.{lagged, before}
 use Rattle.fx_nums.specs.Fraction.{Fraction, over, IsWholeOver, den_value}
 use Rattle.fx_net.specs.Net.{Net}
-use Rattle.fx_net.specs.Run.{before, row_time}
+use Rattle.fx_net.specs.Run.{row_time}
 
 -- what row r reads at moment k, each source brought to the row's denominator
 abbrev pub of_now : ℕ → (ℕ → ℕ → ℤ) → ℕ → ℕ → ℕ → ℤ

@@ -6,11 +6,11 @@ use Rattle.std.proofs.lemmas.Bool.{cases_lt, eq-eqb, ne_eqb, eqb-true}
 use Rattle.fx_math.specs.Sums.{total}
 use Rattle.fx_math.proofs.Ring.{add-mul}
 use Rattle.fx_math.proofs.Sums.{total_add, total_ext, total_zero}
-use Rattle.fx_nums.specs.Fraction.{Fraction, over, IsWholeOver}
-use Rattle.fx_mat.specs.Entries.{zero_fraction}
+use Rattle.fx_eqs.specs.declared.limits.TheConstants.{PORTS}
+use Rattle.fx_nums.specs.Fraction.{Fraction, over, IsWholeOver, zero_fraction}
 use Rattle.fx_eqs.specs.Expanded.{NetRead, NetTerm}
 use Rattle.fx_eqs.specs.Expanded.NetRead.{Now, Old, In}
-use Rattle.fx_net.specs.Net.{plain, input_count}
+use Rattle.fx_net.specs.Net.{plain}
 use Rattle.fx_net.specs.Rows.{reads_now, reads_old, reads_input, coefficient_or, coefficient, ReadFits}
 
 -- ---- each source once
@@ -153,28 +153,28 @@ one_more n a b x =
 one_source : (n at r : ℕ) (from : NetRead) (w : ℤ) (now old u : ℕ → ℤ) → ReadFits n at r from →
     w *ℤ value_at at from now old u
     ≡ total (at + r) (λ j. cond (reads_now at j from) w (pos 0) *ℤ now j) +ℤ total n (λ j. cond (reads_old at j from) w (pos 0) *ℤ old j)
-    +ℤ total input_count (λ j. cond (reads_input j from) w (pos 0) *ℤ u j)
+    +ℤ total PORTS (λ j. cond (reads_input j from) w (pos 0) *ℤ u j)
 one_source n at r (Now s) w now old u h =
     let a = only_at (at + r) (at + s) w now (omega arith) in
     let b = nothing n old in
-    let c = nothing input_count u in
+    let c = nothing PORTS u in
     omega (arith, ints)
 one_source n at r (Old s) w now old u h =
     let a = nothing (at + r) now in
     let b = only_at n (at + s) w old h in
-    let c = nothing input_count u in
+    let c = nothing PORTS u in
     omega (arith, ints)
 one_source n at r (In s) w now old u h =
     let a = nothing (at + r) now in
     let b = nothing n old in
-    let c = only_at input_count s w u h in
+    let c = only_at PORTS s w u h in
     omega (arith, ints)
 
 pub sum_by_source : (q n at r : ℕ) (ts : List NetTerm) (now old u : ℕ → ℤ) → AllFit n at r ts →
     net_sum q at ts now old u
     ≡ total (at + r) (λ j. taken (reads_now at j) q ts *ℤ now j) +ℤ total n (λ j. taken (reads_old at j) q ts *ℤ old j)
-    +ℤ total input_count (λ j. taken (reads_input j) q ts *ℤ u j)
-sum_by_source q n at r [] now old u h = omega (arith, ints, nothing (at + r) now, nothing n old, nothing input_count u)
+    +ℤ total PORTS (λ j. taken (reads_input j) q ts *ℤ u j)
+sum_by_source q n at r [] now old u h = omega (arith, ints, nothing (at + r) now, nothing n old, nothing PORTS u)
 sum_by_source q n at r (t ∷ ts) now old u h =
     omega (
       arith,
@@ -183,5 +183,5 @@ sum_by_source q n at r (t ∷ ts) now old u h =
       sum_by_source q n at r ts now old u h.1,
       one_more (at + r) (λ j. cond (reads_now at j t.from) (over q t.coef) (pos 0)) (λ j. taken (reads_now at j) q ts) now,
       one_more n (λ j. cond (reads_old at j t.from) (over q t.coef) (pos 0)) (λ j. taken (reads_old at j) q ts) old,
-      one_more input_count (λ j. cond (reads_input j t.from) (over q t.coef) (pos 0)) (λ j. taken (reads_input j) q ts) u,
+      one_more PORTS (λ j. cond (reads_input j t.from) (over q t.coef) (pos 0)) (λ j. taken (reads_input j) q ts) u,
     )

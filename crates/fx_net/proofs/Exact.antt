@@ -6,10 +6,12 @@ use Rattle.std.proofs.lemmas.Bool.{cases_lt, cases_eq, eq-eqb, ne_eqb}
 use Rattle.std.proofs.lemmas.List.Elements.{All-head, All-tail}
 use Rattle.fx_math.proofs.Ring.{add-mul}
 use Rattle.fx_math.specs.Unroll.{lagged}
-use Rattle.fx_nums.specs.Fraction.{over, IsWholeOver}
+use Rattle.fx_eqs.specs.declared.limits.TheConstants.{PORTS}
+use Rattle.fx_eqs.specs.Denominator.{DividesEach}
+use Rattle.fx_nums.specs.Fraction.{over, IsWholeOver, one_fraction}
 use Rattle.fx_eqs.specs.Equations.{Equations}
 use Rattle.fx_eqs.specs.ExactRun.{exact_value, terms_sum, value_read}
-use Rattle.fx_eqs.specs.Expanded.{NetRead, NetTerm, one, expanded, net_read, input_hold_place, row_place, row_hold_place}
+use Rattle.fx_eqs.specs.Expanded.{NetRead, NetTerm, expanded, net_read, input_hold_place, row_place, row_hold_place}
 use Rattle.fx_eqs.specs.Expanded.NetRead.{Old, In}
 use Rattle.fx_eqs.specs.Fits.{EquationsFit, IsThereByThen}
 use Rattle.fx_eqs.specs.Lags.{greatest_lag}
@@ -18,8 +20,8 @@ use Rattle.fx_eqs.specs.declared.term.Source.{Source}
 use Rattle.fx_eqs.specs.declared.term.Source.TheVariants.{Row, In as Input}
 use Rattle.fx_eqs.specs.declared.term.Term.{Term}
 use Rattle.fx_net.specs.Layout.{IsRead}
-use Rattle.fx_net.specs.Laws.{DividesEach, AreUnperturbed, HasExactValues}
-use Rattle.fx_net.specs.Net.{Net, input_count}
+use Rattle.fx_net.specs.Laws.{AreUnperturbed, HasExactValues}
+use Rattle.fx_net.specs.Net.{Net}
 use Rattle.fx_net.specs.Rows.{reads_now, reads_old, reads_input, coefficient, row_of, HoldsRows, ReadFits}
 use Rattle.fx_net.specs.Run.{IsDenominator, IsRun, row_time, row_sum}
 use Rattle.fx_net.proofs.Apart.{Stands, terms_once}
@@ -31,7 +33,7 @@ use Rattle.fx_net.proofs.Terms.{HasTerms, AllWhole, as_terms, whole_terms}
 
 -- ---- the equations' rows
 
-rows_fit : (s : Equations) (n at i : ℕ) → at + length (expanded s) ≤ n → s.inputs ≤ input_count → (ts : List Term) → All (Stands s) ts → AllFit n at (row_place s i) (net_terms s i ts)
+rows_fit : (s : Equations) (n at i : ℕ) → at + length (expanded s) ≤ n → s.inputs ≤ PORTS → (ts : List Term) → All (Stands s) ts → AllFit n at (row_place s i) (net_terms s i ts)
 rows_fit s n at i h few [] stands = tt
 rows_fit s n at i h few (t ∷ ts) stands =
     let rest = rows_fit s n at i h few ts (All-tail (Stands s) t ts stands) in
@@ -48,7 +50,7 @@ all_stand s fits k d h =
     let fit = fits.terms k d h in
     record { read = record { source = fit.source; lag = lag_high s.terms k d h }; fits = fit }
 
-over_one : (q : ℕ) → over q one ≡ pos q
+over_one : (q : ℕ) → over q one_fraction ≡ pos q
 over_one q = ap pos (omega arith)
 
 module _ (s : Equations) (net : Net) (at q g : ℕ) (u z : ℕ → ℕ → ℤ)
@@ -84,12 +86,12 @@ module _ (s : Equations) (net : Net) (at q g : ℕ) (u z : ℕ → ℕ → ℤ)
       (rows_fit s net.rows at i holds.inside fits.inputs_high s.terms (all_stand s fits))
 
   -- what a row holds
-  held_value : (k r : ℕ) (from : NetRead) → r < length (expanded s) → row_of (expanded s) r ≡ record { coef = one; from = from } ∷ [] → ReadFits net.rows at r from →
+  held_value : (k r : ℕ) (from : NetRead) → r < length (expanded s) → row_of (expanded s) r ≡ record { coef = one_fraction; from = from } ∷ [] → ReadFits net.rows at r from →
       z k (at + r) ≡ pos q *ℤ value_at at from (of_now q z k (at + r)) (of_old net q z k (at + r)) (of_input net q u k (at + r))
   held_value k r from h e fit =
       let x : ℤ = value_at at from (of_now q z k (at + r)) (of_old net q z k (at + r)) (of_input net q u k (at + r)) in
-      let o : over q one *ℤ x +ℤ pos 0 ≡ pos q *ℤ x = ap (λ w. w *ℤ x +ℤ pos 0) (over_one q) ∙ omega (arith, ints) in
-      unperturbed k r h ∙ as_terms net at q r (record { coef = one; from = from } ∷ []) u z k (has r (record { coef = one; from = from } ∷ []) h e (tt, refl, tt) (fit, tt)) ∙ o
+      let o : over q one_fraction *ℤ x +ℤ pos 0 ≡ pos q *ℤ x = ap (λ w. w *ℤ x +ℤ pos 0) (over_one q) ∙ omega (arith, ints) in
+      unperturbed k r h ∙ as_terms net at q r (record { coef = one_fraction; from = from } ∷ []) u z k (has r (record { coef = one_fraction; from = from } ∷ []) h e (tt, refl, tt) (fit, tt)) ∙ o
 
   record Moment (k : ℕ) : Type 0 where
     rows : (i : ℕ) → i < s.rows → Carries net q g s.rows y z k (row i) i 0

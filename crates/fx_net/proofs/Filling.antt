@@ -2,10 +2,10 @@
 use Rattle.std.proofs.Common.{◌≡◌, ℕ, zero, suc, ◌+◌, ◌-◌, ◌<◌, ◌≤◌, ◌⊎◌, List, [], ◌∷◌, ◌++◌, length, arith, refl, ap, ap₂, sym, ◌∙◌, inl, inr, Bool, false, cond, add-one, length-append}
 use mathlib.Core.Path.{fun_ext}
 use Rattle.std.proofs.lemmas.Bool.{cases_lt, eq-eqb, ne_eqb, cond-true, cond-false, and_left, and_right, and_from, lt-ltb, le-ltb, lt-leb, le-leb}
-use Rattle.fx_nums.specs.Fraction.{Fraction}
-use Rattle.fx_mat.specs.Entries.{zero_fraction}
+use Rattle.fx_math.specs.Sums.{joined}
+use Rattle.fx_nums.specs.Fraction.{Fraction, one_fraction, zero_fraction}
 use Rattle.fx_eqs.specs.Equations.{Equations}
-use Rattle.fx_eqs.specs.Expanded.{NetRead, NetTerm, one, hold_rows, joined, expanded, row_place}
+use Rattle.fx_eqs.specs.Expanded.{NetRead, NetTerm, hold_rows, expanded, row_place}
 use Rattle.fx_eqs.specs.Expanded.NetRead.{Now, Old, In}
 use Rattle.fx_net.specs.Laws.{RowsStand}
 use Rattle.fx_net.specs.Net.{Net, plain}
@@ -19,7 +19,7 @@ pub each_append : (at r n : ℕ) (a b : List (List NetTerm)) (net : Net) → n �
 each_append at r n [] b net e = let same : r ≡ n = omega arith in ap (λ m. put_each at m b net) same
 each_append at r n (ts ∷ a) b net e = each_append at (r + 1) n a b (put_terms at r ts net) (omega arith)
 
-pub hold_next : (at row left n : ℕ) (from : NetRead) (net : Net) → left ≡ suc n → put_each at row (hold_rows from left row) net ≡ put_each at (row + 1) (hold_rows (Old row) n (row + 1)) (put_term at row one from net)
+pub hold_next : (at row left n : ℕ) (from : NetRead) (net : Net) → left ≡ suc n → put_each at row (hold_rows from left row) net ≡ put_each at (row + 1) (hold_rows (Old row) n (row + 1)) (put_term at row one_fraction from net)
 hold_next at row left n from net e = rw e refl
 
 -- one part more of several
@@ -108,19 +108,19 @@ input_elsewhere at r c (In s) net i j ne = rw (ne_eqb i (at + r) ne) refl
 
 -- ---- what terms leave
 
-term_leaves : (at r : ℕ) (c : Fraction) (from : NetRead) (net : Net) → ((put_term at r c from net).rows ≡ net.rows) × ((put_term at r c from net).halves ≡ net.halves)
+term_leaves : (at r : ℕ) (c : Fraction) (from : NetRead) (net : Net) → ((put_term at r c from net).rows ≡ net.rows) × ((put_term at r c from net).class ≡ net.class)
 term_leaves at r c (Now s) net = (refl, refl)
 term_leaves at r c (Old s) net = (refl, refl)
 term_leaves at r c (In s) net = (refl, refl)
 
-terms_leave : (at r : ℕ) (ts : List NetTerm) (net : Net) → ((put_terms at r ts net).rows ≡ net.rows) × ((put_terms at r ts net).halves ≡ net.halves)
+terms_leave : (at r : ℕ) (ts : List NetTerm) (net : Net) → ((put_terms at r ts net).rows ≡ net.rows) × ((put_terms at r ts net).class ≡ net.class)
 terms_leave at r [] net = (refl, refl)
 terms_leave at r (t ∷ ts) net =
     let rest = terms_leave at r ts (put_term at r t.coef t.from net) in
     let here = term_leaves at r t.coef t.from net in
     (rest.0 ∙ here.0, rest.1 ∙ here.1)
 
-each_leaves : (at r : ℕ) (rows : List (List NetTerm)) (net : Net) → ((put_each at r rows net).rows ≡ net.rows) × ((put_each at r rows net).halves ≡ net.halves)
+each_leaves : (at r : ℕ) (rows : List (List NetTerm)) (net : Net) → ((put_each at r rows net).rows ≡ net.rows) × ((put_each at r rows net).class ≡ net.class)
 each_leaves at r [] net = (refl, refl)
 each_leaves at r (ts ∷ rows) net =
     let rest = each_leaves at (r + 1) rows (put_terms at r ts net) in
@@ -128,10 +128,10 @@ each_leaves at r (ts ∷ rows) net =
     (rest.0 ∙ here.0, rest.1 ∙ here.1)
 
 -- rows without half steps have none
-no_classes : (at count : ℕ) (halves : ℕ → ℕ) → ((i : ℕ) → at ≤ i → i < at + count → halves i ≡ 0) → halves ≡ (λ i. cond (is_within at count i) 0 (halves i))
-no_classes at count halves empty = fun_ext (λ i. by_place i (cases_lt i at) (cases_lt i (at + count)))
+no_classes : (at count : ℕ) (class : ℕ → ℕ) → ((i : ℕ) → at ≤ i → i < at + count → class i ≡ 0) → class ≡ (λ i. cond (is_within at count i) 0 (class i))
+no_classes at count class empty = fun_ext (λ i. by_place i (cases_lt i at) (cases_lt i (at + count)))
   where
-    by_place : (i : ℕ) → (i < at) ⊎ (at ≤ i) → (i < at + count) ⊎ (at + count ≤ i) → halves i ≡ cond (is_within at count i) 0 (halves i)
+    by_place : (i : ℕ) → (i < at) ⊎ (at ≤ i) → (i < at + count) ⊎ (at + count ≤ i) → class i ≡ cond (is_within at count i) 0 (class i)
     by_place i (inl below) _ = sym (cond-false _ _ _ (and_left _ _ (lt-leb at i below)))
     by_place i (inr from) (inr above) = sym (cond-false _ _ _ (and_right _ _ (le-ltb i (at + count) above)))
     by_place i (inr from) (inl below) = empty i from below ∙ sym (cond-true _ _ _ (and_from _ _ (le-leb at i from) (lt-ltb i (at + count) below)))
@@ -145,10 +145,10 @@ filled at rows net empty =
     (whole_table (λ net. net.now) (reads_now at) at (now_here at) (now_elsewhere at) rows net empty.now)
     (whole_table (λ net. net.old) (reads_old at) at (old_here at) (old_elsewhere at) rows net empty.old)
     (whole_table (λ net. net.input) reads_input at (input_here at) (input_elsewhere at) rows net empty.input)
-    (leaves.1 ∙ no_classes at (length rows) net.halves empty.halves)
+    (leaves.1 ∙ no_classes at (length rows) net.class empty.class)
   where
-    by_fields : (made : Net) → {n : ℕ} {a b c : ℕ → ℕ → Fraction} {h : ℕ → ℕ} → made.rows ≡ n → made.now ≡ a → made.old ≡ b → made.input ≡ c → made.halves ≡ h →
-        made ≡ record { rows = n; now = a; old = b; input = c; halves = h }
+    by_fields : (made : Net) → {n : ℕ} {a b c : ℕ → ℕ → Fraction} {h : ℕ → ℕ} → made.rows ≡ n → made.now ≡ a → made.old ≡ b → made.input ≡ c → made.class ≡ h →
+        made ≡ record { rows = n; now = a; old = b; input = c; class = h }
     by_fields made er ea eb ec eh = rw (← er, ← ea, ← eb, ← ec, ← eh) refl
 
 -- the three parts of an expanded net are the whole

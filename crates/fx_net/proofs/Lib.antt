@@ -1,7 +1,6 @@
 pub mod Apart
 pub mod Carried
 pub mod Coefficients
-pub mod Denominators
 pub mod Empty
 pub mod Exact
 pub mod Filling

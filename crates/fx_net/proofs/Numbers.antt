@@ -3,7 +3,7 @@ use Rattle.std.proofs.Common.{◌≡◌, ℕ, ◌<◌, ◌≤◌, ◌+◌, ◌�
 use mathlib.Core.Path.{fun_ext}
 use Rattle.std.proofs.lemmas.Bool.{cond-true, cond-false, eq-eqb, ne_eqb, cases_lt, cases_eq}
 use Rattle.std.proofs.lemmas.List.{get_or_read, get_or-replicate, get_or_past, length-replicate}
-use Rattle.fx_net.specs.Net.{no_halves}
+use Rattle.fx_net.specs.Net.{no_class}
 use Rattle.fx_net.specs.Tables.{number_at}
 
 -- what an index reads
@@ -20,17 +20,17 @@ pub number_outside : (xs : List ℕ) (i : ℕ) → length xs ≤ i → number_at
 unfolding number_at
 number_outside xs i h = get_or_past xs i 0 h
 
--- each number is at most 2 where all in the list are
-pub number_high : (xs : List ℕ) (i : ℕ) → All (λ e. e ≤ 2) xs → number_at xs i ≤ 2
+-- each number is at most so high where all in the list are
+pub number_high : (xs : List ℕ) (i most : ℕ) → All (λ e. e ≤ most) xs → number_at xs i ≤ most
 unfolding number_at
-number_high xs i h = by_place (cases_lt i (length xs))
+number_high xs i most h = by_place (cases_lt i (length xs))
   where
-    by_place : (i < length xs) ⊎ (length xs ≤ i) → get_or xs i 0 ≤ 2
+    by_place : (i < length xs) ⊎ (length xs ≤ i) → get_or xs i 0 ≤ most
     by_place (inl l) = h i 0 l
     by_place (inr r) = rw (get_or_past xs i 0 r) (omega arith)
 
 -- a list of zeros
-pub zero_numbers : (n : ℕ) (xs : List ℕ) → xs ≡ replicate n 0 → number_at xs ≡ no_halves
+pub zero_numbers : (n : ℕ) (xs : List ℕ) → xs ≡ replicate n 0 → number_at xs ≡ no_class
 unfolding number_at
 zero_numbers n xs e = fun_ext (λ i. rw e (by_place i (cases_lt i n)))
   where

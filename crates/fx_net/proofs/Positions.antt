@@ -1,11 +1,13 @@
 -- Where the rows of an expanded net stand.
 use Rattle.std.proofs.Common.{◌≡◌, ℕ, zero, suc, ◌+◌, ◌-◌, ◌<◌, ◌≤◌, List, [], ◌∷◌, ◌++◌, length, add-one, arith, refl, ap, ap₂, sym, ◌∙◌, inl, inr, length-append}
 use Rattle.std.proofs.lemmas.Bool.{cases_lt}
+use Rattle.fx_math.specs.Sums.{joined, sum_below}
+use Rattle.fx_nums.specs.Fraction.{one_fraction}
 use Rattle.fx_eqs.proofs.Expanding.{length-expanded}
 use Rattle.fx_eqs.specs.Equations.{Equations}
-use Rattle.fx_eqs.specs.Expanded.{NetRead, NetTerm, one, hold_rows, joined, expanded, equation_row, input_hold_place, row_place, row_hold_place}
+use Rattle.fx_eqs.specs.Expanded.{NetRead, NetTerm, hold_rows, expanded, equation_row, input_hold_place, row_place, row_hold_place}
 use Rattle.fx_eqs.specs.Expanded.NetRead.{Old, In}
-use Rattle.fx_eqs.specs.Lags.{sum_below, greatest_lag}
+use Rattle.fx_eqs.specs.Lags.{greatest_lag}
 use Rattle.fx_eqs.specs.declared.term.Source.TheVariants.{Row, In as Input}
 use Rattle.fx_net.specs.Parts.{input_holds, equations, row_holds}
 use Rattle.fx_net.specs.Rows.{row_of}
@@ -54,12 +56,12 @@ abbrev pub held : NetRead → ℕ → ℕ → NetRead
 held from place zero = from
 held from place (suc l) = Old (place + l)
 
-pub hold_row : (from : NetRead) (count place l : ℕ) → l < count → row_of (hold_rows from count place) l ≡ record { coef = one; from = held from place l } ∷ []
+pub hold_row : (from : NetRead) (count place l : ℕ) → l < count → row_of (hold_rows from count place) l ≡ record { coef = one_fraction; from = held from place l } ∷ []
 hold_row from zero place l h = absurd (omega arith)
 hold_row from (suc count) place zero h = row_first _ (hold_rows (Old place) count (place + 1))
 hold_row from (suc count) place (suc l) h =
-    row_later (record { coef = one; from = from } ∷ []) (hold_rows (Old place) count (place + 1)) l ∙ hold_row (Old place) count (place + 1) l (omega arith)
-    ∙ ap (λ r. record { coef = one; from = r } ∷ []) (next l)
+    row_later (record { coef = one_fraction; from = from } ∷ []) (hold_rows (Old place) count (place + 1)) l ∙ hold_row (Old place) count (place + 1) l (omega arith)
+    ∙ ap (λ r. record { coef = one_fraction; from = r } ∷ []) (next l)
   where
     next : (l : ℕ) → held (Old place) (place + 1) l ≡ Old (place + l)
     next zero = ap Old (omega arith)
@@ -115,7 +117,7 @@ module _ (s : Equations) where
   input_hold_inside j l h k = let b = input_hold_before j l h k in let e = row_hold_end in omega arith
 
   -- what stands there
-  pub at_input_hold : (j l : ℕ) → j < s.inputs → l < greatest_lag (Input j) s.terms → row_of (expanded s) (input_hold_place s j + l) ≡ record { coef = one; from = held (In j) (input_hold_place s j) l } ∷ []
+  pub at_input_hold : (j l : ℕ) → j < s.inputs → l < greatest_lag (Input j) s.terms → row_of (expanded s) (input_hold_place s j + l) ≡ record { coef = one_fraction; from = held (In j) (input_hold_place s j) l } ∷ []
   at_input_hold j l h k =
       let b = input_hold_before j l h k in
       let inside : input_hold_place s j + l < length (input_holds s s.inputs) = omega (arith, length-input_holds s.inputs) in
@@ -134,7 +136,7 @@ module _ (s : Equations) where
       ∙ joined_row (λ i. equation_row s i ∷ []) (λ i. 1) (λ i. refl) s.rows i 0 h (omega arith)
       ∙ row_first (equation_row s i) []
 
-  pub at_row_hold : (j l : ℕ) → j < s.rows → l < greatest_lag (Row j) s.terms - 1 → row_of (expanded s) (row_hold_place s j + l) ≡ record { coef = one; from = held (Old (row_place s j)) (row_hold_place s j) l } ∷ []
+  pub at_row_hold : (j l : ℕ) → j < s.rows → l < greatest_lag (Row j) s.terms - 1 → row_of (expanded s) (row_hold_place s j + l) ≡ record { coef = one_fraction; from = held (Old (row_place s j)) (row_hold_place s j) l } ∷ []
   at_row_hold j l h k =
       row_right ((input_holds s s.inputs) ++ (equations s s.rows)) (row_holds s s.rows) (row_hold_place s j + l) (sum_below j (λ j. greatest_lag (Row j) s.terms - 1) + l)
       (omega (arith, length-append (input_holds s s.inputs) (equations s s.rows), length-input_holds s.inputs, length-equations s.rows))

@@ -4,12 +4,13 @@ use Rattle.std.proofs.Math.IntN.{ℤ, pos, ◌+ℤ◌, ◌*ℤ◌}
 use Rattle.std.proofs.lemmas.Int.{ints}
 use mathlib.Core.Path.{fun_ext}
 use Rattle.fx_math.specs.Sums.{total}
-use Rattle.fx_math.specs.Unroll.{fill, last}
+use Rattle.fx_math.specs.Unroll.{fill, last, before}
 use Rattle.fx_math.proofs.Sums.{total_ext}
 use Rattle.fx_math.proofs.Unroll.{fill_at}
+use Rattle.fx_eqs.specs.declared.limits.TheConstants.{PORTS}
 use Rattle.fx_nums.specs.Fraction.{over}
-use Rattle.fx_net.specs.Net.{Net, input_count}
-use Rattle.fx_net.specs.Run.{before, row_reads, row_sum, row_time}
+use Rattle.fx_net.specs.Net.{Net}
+use Rattle.fx_net.specs.Run.{row_reads, row_sum, row_time}
 use Rattle.fx_net.specs.Running.{EachNetHasARun, run_of}
 
 -- a row that was filled stays
@@ -19,7 +20,7 @@ fill_stays f i n j h l = fill_at f n j (omega arith) ∙ sym (fill_at f i j h)
 -- what a row reads depends on the rows before it alone
 same_reads : (net : Net) (q : ℕ) (u : ℕ → ℕ → ℤ) (k i : ℕ) (x y old : ℕ → ℤ) → ((j : ℕ) → j < i → x j ≡ y j) → row_reads net q u k i x old ≡ row_reads net q u k i y old
 same_reads net q u k i x y old h =
-    ap (λ s. s +ℤ total net.rows (λ j. over q (net.old i j) *ℤ old j *ℤ pos (q ^ (net.rows + i - j - 1))) +ℤ total input_count (λ j. over q (net.input i j) *ℤ u k j *ℤ pos (q ^ row_time net k i)))
+    ap (λ s. s +ℤ total net.rows (λ j. over q (net.old i j) *ℤ old j *ℤ pos (q ^ (net.rows + i - j - 1))) +ℤ total PORTS (λ j. over q (net.input i j) *ℤ u k j *ℤ pos (q ^ row_time net k i)))
     (total_ext i _ _ (λ j l. ap (λ v. over q (net.now i j) *ℤ v *ℤ pos (q ^ (i - j - 1))) (h j l)))
 
 -- the moment before

@@ -1,6 +1,7 @@
 -- What the terms of an equation system read in its expanded net.
 use Rattle.std.proofs.Common.{◌≡◌, ℕ, zero, suc, ◌+◌, ◌-◌, ◌<◌, ◌≤◌, List, [], ◌∷◌, length, get_or, arith, refl, ap, sym, subst, drop, drop-cons, add-one, ◌∙◌, All, true, map, filter, ◌==◌}
 use Rattle.std.proofs.lemmas.Bool.{eq-eqb, ne_eqb, cond-true}
+use Rattle.fx_eqs.specs.declared.limits.TheConstants.{PORTS}
 use Rattle.fx_eqs.specs.Equations.{Equations}
 use Rattle.fx_eqs.specs.Expanded.{NetTerm, net_read, expanded, input_hold_place, row_place, row_hold_place}
 use Rattle.fx_eqs.specs.Expanded.NetRead.{Old}
@@ -10,7 +11,7 @@ use Rattle.fx_eqs.specs.declared.term.Source.{Source}
 use Rattle.fx_eqs.specs.declared.term.Source.TheVariants.{Row, In as Input}
 use Rattle.fx_eqs.specs.declared.term.Term.{Term}
 use Rattle.fx_net.specs.Layout.{ArePlaces, IsRead}
-use Rattle.fx_net.specs.Net.{Net, input_count}
+use Rattle.fx_net.specs.Net.{Net}
 use Rattle.fx_net.specs.Rows.{ReadFits, put_term, put_terms}
 use Rattle.fx_net.proofs.Positions.{sum_within, row_hold_end, input_hold_inside, row_hold_inside, row_inside}
 
@@ -50,7 +51,7 @@ item_fits s k t fits h it = subst (TermFits s.rows s.inputs) (sym it) (fits k t 
 
 -- ---- what is read is inside the net
 
-pub read_fits : (n at : ℕ) (s : Equations) (i : ℕ) (from : Source) (lag : ℕ) → at + length (expanded s) ≤ n → s.inputs ≤ input_count → IsRead s from lag → IsThereByThen i from lag → ReadFits n at (row_place s i) (net_read s from lag)
+pub read_fits : (n at : ℕ) (s : Equations) (i : ℕ) (from : Source) (lag : ℕ) → at + length (expanded s) ≤ n → s.inputs ≤ PORTS → IsRead s from lag → IsThereByThen i from lag → ReadFits n at (row_place s i) (net_read s from lag)
 read_fits n at s i (Input j) zero h few r there = let k : j < s.inputs = r.source in omega arith
 read_fits n at s i (Input j) (suc l) h few r there = let k : j < s.inputs = r.source in let m = input_hold_inside s j l k (let high = r.lag in omega arith) in omega arith
 read_fits n at s i (Row j) zero h few r there = let k : j < i = there refl in omega arith

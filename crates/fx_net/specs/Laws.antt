@@ -1,21 +1,18 @@
 -- What the laws of this crate say.
 use Rattle.std.specs.Prelude.{◌≡◌, ℕ, ◌+◌, ◌*◌, ◌^◌, ◌<◌, ◌≤◌, ℤ, pos, ◌*ℤ◌, List, length, All}
-use Rattle.fx_nums.specs.Fraction.{IsWholeOver}
+use Rattle.fx_math.specs.Ratio.{SameValue}
+use Rattle.fx_eqs.specs.Denominator.{DividesEach}
 use Rattle.fx_eqs.specs.Equations.{Equations}
-use Rattle.fx_eqs.specs.ExactRun.{exact_value}
+use Rattle.fx_eqs.specs.ExactRun.{row_value}
 use Rattle.fx_eqs.specs.Expanded.{NetTerm, expanded, row_place}
 use Rattle.fx_eqs.specs.declared.term.Term.{Term}
 use Rattle.fx_net.specs.Net.{Net}
 use Rattle.fx_net.specs.Rows.{put_rows, HoldsRows}
-use Rattle.fx_net.specs.Run.{IsDenominator, IsRun, row_sum, row_time}
+use Rattle.fx_net.specs.Run.{IsDenominator, IsRun, net_value, row_sum}
 
 -- rows that are put stand there
 abbrev pub RowsStand : Type 0
 RowsStand = (rows : List (List NetTerm)) (at : ℕ) (net : Net) → at + length rows ≤ net.rows → HoldsRows (put_rows rows at net) at rows
-
--- the denominator of each term's coefficient divides g
-abbrev pub DividesEach : ℕ → List Term → Type 0
-DividesEach g terms = All (λ (t : Term). IsWholeOver g t.coef) terms
 
 -- so many rows from a place on have just what they read, at all moments
 abbrev pub AreUnperturbed : Net → ℕ → (ℕ → ℕ → ℤ) → (ℕ → ℕ → ℤ) → ℕ → ℕ → Type 0
@@ -25,7 +22,7 @@ AreUnperturbed net q u z at count = (k r : ℕ) → r < count → z k (at + r) �
 abbrev pub HasExactValues : Equations → ℕ → Net → ℕ → ℕ → (ℕ → ℕ → ℤ) → (ℕ → ℕ → ℤ) → Type 0
 HasExactValues eqs g net q at u z =
     (k i : ℕ) → i < eqs.rows →
-    z k (at + row_place eqs i) *ℤ pos (g ^ (k * eqs.rows + i + 1)) ≡ exact_value eqs g u k i *ℤ pos (q ^ (row_time net k (at + row_place eqs i) + 1))
+    SameValue (net_value net q z k (at + row_place eqs i)) (row_value eqs g u k i)
 
 -- a net that holds the expanded rows has the exact values, where these rows have just what they read; its other rows are free
 abbrev pub ExactInNet : Equations → Type 0

@@ -6,7 +6,7 @@ use Rattle.fx_eqs.specs.Expanded.NetRead.{Now, Old, In}
 use Rattle.fx_eqs.specs.Fits.{SourceFits}
 use Rattle.fx_eqs.specs.Lags.{greatest_lag}
 use Rattle.fx_eqs.specs.declared.term.Source.{Source}
-use Rattle.fx_net.specs.Net.{input_count}
+use Rattle.fx_eqs.specs.declared.limits.TheConstants.{PORTS, NET_ROWS}
 use Rattle.fx_net.specs.declared.layout.Read.{Read}
 use Rattle.fx_net.specs.declared.layout.Read.TheVariants.{Now as NowRow, Old as OldRow, In as Input}
 
@@ -20,8 +20,8 @@ read_of (Input j) = In j
 pub record ArePlaces (s : Equations) (holds_input : List ℕ) (first : ℕ) (holds_row : List ℕ) : Type 0 where
   pub inputs : (j : ℕ) → j < s.inputs → slice_index_or holds_input j 0 ≡ input_hold_place s j
   pub equations : first ≡ row_place s 0
-  pub inputs_high : s.inputs ≤ input_count
-  pub few : length (expanded s) ≤ 24
+  pub inputs_high : s.inputs ≤ PORTS
+  pub few : length (expanded s) ≤ NET_ROWS
   pub rows : (j : ℕ) → j < s.rows → slice_index_or holds_row j 0 ≡ row_hold_place s j
 
 -- a source of the system, at a lag at which some term reads it

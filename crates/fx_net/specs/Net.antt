@@ -1,7 +1,9 @@
 -- Nets: rows that read rows of the same moment, rows of the moment before, and inputs.
-use Rattle.std.specs.Prelude.{◌≡◌, ℕ, ◌≤◌, ◌==◌, cond, unsigned_abs}
-use Rattle.fx_nums.specs.Fraction.{Fraction}
-use Rattle.fx_mat.specs.Entries.{zero_fraction, no_entries, put, IsZeroOutside}
+use Rattle.std.specs.Prelude.{◌≡◌, ℕ, ◌≤◌, ◌==◌, cond}
+use Rattle.fx_nums.specs.Fraction.{Fraction, zero_fraction, is_zero}
+use Rattle.fx_eqs.specs.declared.limits.TheConstants.{PORTS}
+use Rattle.fx_mat.specs.Entries.{no_entries, put, IsZeroOutside}
+use Rattle.fx_net.specs.declared.limits.TheConstants.{LARGEST_NET, GREATEST_CLASS}
 
 -- coefficients by row and source, zero outside; and the class of each row: how many half steps its perturbation may have
 pub record Net : Type 0 where
@@ -9,23 +11,19 @@ pub record Net : Type 0 where
   pub now : ℕ → ℕ → Fraction
   pub old : ℕ → ℕ → Fraction
   pub input : ℕ → ℕ → Fraction
-  pub halves : ℕ → ℕ
-
--- so many inputs can be read
-abbrev pub input_count : ℕ
-input_count = 4
+  pub class : ℕ → ℕ
 
 -- 0 over 10 ^ 0 for each fraction of value 0, the others as they are
 abbrev pub plain : Fraction → Fraction
-plain c = cond (unsigned_abs c.num == 0) zero_fraction c
+plain c = cond (is_zero c) zero_fraction c
 
--- no half steps
-abbrev pub no_halves : ℕ → ℕ
-no_halves i = 0
+-- rows without half steps
+abbrev pub no_class : ℕ → ℕ
+no_class i = 0
 
 -- rows that read nothing
 abbrev pub empty_net : ℕ → Net
-empty_net n = record { rows = n; now = no_entries; old = no_entries; input = no_entries; halves = no_halves }
+empty_net n = record { rows = n; now = no_entries; old = no_entries; input = no_entries; class = no_class }
 
 -- ---- one change
 
@@ -42,16 +40,19 @@ abbrev pub put_input : ℕ → ℕ → Fraction → Net → Net
 put_input i j c net = record net { input = put i j (plain c) net.input }
 
 -- the half steps of row i
-abbrev pub put_halves : ℕ → ℕ → Net → Net
-put_halves i e net = record net { halves = λ p. cond (p == i) e (net.halves p) }
+abbrev pub put_class : ℕ → ℕ → Net → Net
+put_class i e net = record net { class = λ p. cond (p == i) e (net.class p) }
 
 -- ---- what each net keeps
 
--- so many rows, nothing outside, and at most two half steps a row
+-- so many rows, each of which reads only earlier rows of its own moment, nothing outside, and classes in their range
 pub record NetFits (n : ℕ) (net : Net) : Type 0 where
   pub rows : net.rows ≡ n
+  pub rows_low : 1 ≤ n
+  pub rows_high : n ≤ LARGEST_NET
+  pub now_earlier : (i j : ℕ) → i ≤ j → net.now i j ≡ zero_fraction
   pub now_outside : IsZeroOutside n n net.now
   pub old_outside : IsZeroOutside n n net.old
-  pub input_outside : IsZeroOutside n input_count net.input
-  pub halves_high : (i : ℕ) → net.halves i ≤ 2
-  pub halves_outside : (i : ℕ) → n ≤ i → net.halves i ≡ 0
+  pub input_outside : IsZeroOutside n PORTS net.input
+  pub class_high : (i : ℕ) → net.class i ≤ GREATEST_CLASS
+  pub class_outside : (i : ℕ) → n ≤ i → net.class i ≡ 0

@@ -1,7 +1,8 @@
 -- The three parts of an expanded net, each up to a count of inputs or rows.
 use Rattle.std.specs.Prelude.{ℕ, ◌-◌, List, [], ◌∷◌}
+use Rattle.fx_math.specs.Sums.{joined}
 use Rattle.fx_eqs.specs.Equations.{Equations}
-use Rattle.fx_eqs.specs.Expanded.{NetTerm, hold_rows, joined, equation_row, input_hold_place, row_place, row_hold_place}
+use Rattle.fx_eqs.specs.Expanded.{NetTerm, hold_rows, equation_row, input_hold_place, row_place, row_hold_place}
 use Rattle.fx_eqs.specs.Expanded.NetRead.{Old, In}
 use Rattle.fx_eqs.specs.Lags.{greatest_lag}
 use Rattle.fx_eqs.specs.declared.term.Source.TheVariants.{Row, In as Input}

@@ -1,10 +1,10 @@
 -- Rows of terms in a net.
 use Rattle.std.specs.Prelude.{◌≡◌, ℕ, ◌+◌, ◌-◌, ◌<◌, ◌≤◌, ◌==◌, ◌&&◌, Bool, false, nat_lt, nat_le, cond, List, [], ◌∷◌, length, slice_index_or}
-use Rattle.fx_nums.specs.Fraction.{Fraction}
+use Rattle.fx_nums.specs.Fraction.{Fraction, zero_fraction}
+use Rattle.fx_eqs.specs.declared.limits.TheConstants.{PORTS}
 use Rattle.fx_eqs.specs.Expanded.{NetRead, NetTerm}
 use Rattle.fx_eqs.specs.Expanded.NetRead.{Now, Old, In}
-use Rattle.fx_mat.specs.Entries.{zero_fraction}
-use Rattle.fx_net.specs.Net.{Net, plain, put_now, put_old, put_input, input_count}
+use Rattle.fx_net.specs.Net.{Net, plain, put_now, put_old, put_input}
 
 -- ---- what reads what, where the rows stand from a place on: row s of them is row at + s of the net
 
@@ -46,29 +46,29 @@ is_within at count i = nat_le at i && nat_lt i (at + count)
 abbrev pub put_table : (ℕ → NetRead → Bool) → List (List NetTerm) → ℕ → (ℕ → ℕ → Fraction) → ℕ → ℕ → Fraction
 put_table reads rows at entries i j = cond (is_within at (length rows) i) (coefficient (reads j) (row_of rows (i - at))) (entries i j)
 
--- the net with these rows from a place on, each without half steps; the other rows stay
+-- the net with these rows from a place on, each of class 0; the other rows stay
 unfoldable pub put_rows : List (List NetTerm) → ℕ → Net → Net
 put_rows rows at net = record {
   rows = net.rows;
   now = put_table (reads_now at) rows at net.now;
   old = put_table (reads_old at) rows at net.old;
   input = put_table reads_input rows at net.input;
-  halves = λ i. cond (is_within at (length rows) i) 0 (net.halves i);
+  class = λ i. cond (is_within at (length rows) i) 0 (net.class i);
 }
 
--- so many rows from a place on read nothing and have no half steps
+-- so many rows from a place on read nothing and have class 0
 pub record AreEmpty (at count : ℕ) (net : Net) : Type 0 where
   pub now : (i j : ℕ) → at ≤ i → i < at + count → net.now i j ≡ zero_fraction
   pub old : (i j : ℕ) → at ≤ i → i < at + count → net.old i j ≡ zero_fraction
   pub input : (i j : ℕ) → at ≤ i → i < at + count → net.input i j ≡ zero_fraction
-  pub halves : (i : ℕ) → at ≤ i → i < at + count → net.halves i ≡ 0
+  pub class : (i : ℕ) → at ≤ i → i < at + count → net.class i ≡ 0
 
 -- the net has these rows from a place on
 pub record HoldsRows (net : Net) (at : ℕ) (rows : List (List NetTerm)) : Type 0 where
   pub inside : at + length rows ≤ net.rows
   pub now : (r j : ℕ) → r < length rows → j < at + r → net.now (at + r) j ≡ coefficient (reads_now at j) (row_of rows r)
   pub old : (r j : ℕ) → r < length rows → j < net.rows → net.old (at + r) j ≡ coefficient (reads_old at j) (row_of rows r)
-  pub input : (r j : ℕ) → r < length rows → j < input_count → net.input (at + r) j ≡ coefficient (reads_input j) (row_of rows r)
+  pub input : (r j : ℕ) → r < length rows → j < PORTS → net.input (at + r) j ≡ coefficient (reads_input j) (row_of rows r)
 
 -- ---- one term after another
 
@@ -92,4 +92,4 @@ put_each at r (ts ∷ rows) net = put_each at (r + 1) rows (put_terms at r ts ne
 abbrev pub ReadFits : ℕ → ℕ → ℕ → NetRead → Type 0
 ReadFits n at r (Now s) = s < r
 ReadFits n at r (Old s) = at + s < n
-ReadFits n at r (In s) = s < input_count
+ReadFits n at r (In s) = s < PORTS

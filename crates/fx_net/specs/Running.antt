@@ -1,6 +1,7 @@
 -- A run and a denominator of each net.
 use Rattle.std.specs.Prelude.{ℕ, ◌*◌, ◌^◌, ℤ, pos}
 use Rattle.fx_math.specs.Unroll.{unroll}
+use Rattle.fx_nums.specs.declared.limits.TheConstants.{GREATEST_TWO, GREATEST_TEN}
 use Rattle.fx_net.specs.Net.{Net}
 use Rattle.fx_net.specs.Run.{IsRun, row_reads}
 
@@ -14,4 +15,4 @@ EachNetHasARun = (net : Net) (q : ℕ) (u : ℕ → ℕ → ℤ) → IsRun net q
 
 -- a multiple of the denominator of each fraction
 abbrev pub widest : ℕ
-widest = 2 ^ 62 * 10 ^ 28
+widest = 2 ^ GREATEST_TWO * 10 ^ GREATEST_TEN

@@ -1,11 +1,13 @@
 ghost use Rattle.std.specs.Prelude.{◌≡◌, ◌+◌, ◌-◌, ◌<◌, ◌≤◌, [], ◌∷◌, length};
-ghost use Rattle.fx_eqs.specs.Expanded.{equation_row, expanded, hold_rows, joined, one, row_place};
+ghost use Rattle.fx_math.specs.Sums.{joined};
+ghost use Rattle.fx_nums.specs.Fraction.{one_fraction};
+ghost use Rattle.fx_eqs.specs.Expanded.{equation_row, expanded, hold_rows, row_place};
 ghost use Rattle.fx_net.specs.Layout.{read_of};
 ghost use Rattle.fx_net.specs.Rows.{AreEmpty, ReadFits, put_each, put_rows, put_term, put_terms};
 ghost use Rattle.fx_net.specs.Tables.{net_of};
 ghost use Rattle.fx_net.specs.Parts.{equations, input_holds, row_holds};
 
-use crate::layout::{Layout, Read, greatest_lag};
+use crate::layout::{Layout, Read};
 use crate::net::Net;
 use fx_eqs::{Eqs, Source};
 use fx_nums::Frac;
@@ -58,7 +60,7 @@ impl<const N: usize> Net<N> {
         ensures { net_of self.new ≡ put_each at 0 (input_holds layout.now.eqs.now layout.now.eqs.now.inputs) (net_of self.old) }
     {
         for j in 0..layout.eqs.inputs() {
-            let count = greatest_lag(Source::In(j as u8), layout.eqs.terms());
+            let count = layout.eqs.greatest_lag(Source::In(j as u8));
             self.put_holds(at, Read::In(j), count, layout.inputs[j]);
         }
     }
@@ -79,7 +81,7 @@ impl<const N: usize> Net<N> {
         ensures { net_of self.new ≡ put_each at (row_place layout.now.eqs.now layout.now.eqs.now.rows) (row_holds layout.now.eqs.now layout.now.eqs.now.rows) (net_of self.old) }
     {
         for j in 0..layout.eqs.rows() {
-            let count = greatest_lag(Source::Row(j as u8), layout.eqs.terms()).saturating_sub(1);
+            let count = layout.eqs.greatest_lag(Source::Row(j as u8)).saturating_sub(1);
             self.put_holds(at, Read::Old(layout.first + j), count, layout.rows[j]);
         }
     }

@@ -1,5 +1,4 @@
-ghost use Rattle.fx_eqs.specs.Denominator.{common};
-ghost use Rattle.fx_net.specs.Laws.{DividesEach, ExactInNet, ExactInRuns, RowsStand};
+ghost use Rattle.fx_net.specs.Laws.{ExactInNet, ExactInRuns, RowsStand};
 ghost use Rattle.fx_net.specs.Running.{EachNetHasARun};
 
 use fx_eqs::{Eqs, exact_values_meet_their_equations, systems_fit};
@@ -13,12 +12,6 @@ pub fn rows_stand()
 /// have just what they read.
 pub fn each_net_has_a_run()
     ensures { EachNetHasARun }
-{}
-
-/// A law with nothing to run: the product of the greatest powers of two and of ten among the denominators of a system is
-/// a denominator of each of its coefficients.
-pub fn common_divides_each(eqs: &Eqs)
-    ensures { DividesEach (common eqs.now) eqs.now.terms }
 {}
 
 /// A law with nothing to run: where a net holds the expanded rows of a system, and these have just what they read, the

@@ -1,9 +1,8 @@
 ghost use Rattle.std.specs.Prelude.{◌≡◌, ◌+◌, ◌-◌, ◌*◌, ◌<◌, ◌≤◌, slice_index_or};
 ghost use Rattle.fx_eqs.specs.Expanded.{input_hold_place, net_read, row_hold_place, row_place};
-ghost use Rattle.fx_eqs.specs.Lags.{greatest_lag};
 ghost use Rattle.fx_net.specs.Layout.{ArePlaces, IsRead, read_of};
 
-use fx_eqs::{Eqs, Source, Term, systems_fit};
+use fx_eqs::{Eqs, LONGEST_LAG, NET_ROWS, PORTS, Source, systems_fit};
 
 /// What a row reads: a row of the same moment, a row of the moment before, or an input.
 #[derive(Clone, Copy)]
@@ -18,52 +17,38 @@ pub enum Read {
 #[derive(Drop)]
 pub struct Layout<'a> {
     pub eqs: &'a Eqs,
-    pub inputs: [usize; 4],
+    pub inputs: [usize; PORTS],
     pub first: usize,
-    pub rows: [usize; 24],
+    pub rows: [usize; NET_ROWS],
     ghost places: { ArePlaces eqs.now inputs first rows },
 }
 
-/// The greatest lag at which the terms read a source; 0 where none does.
-pub fn greatest_lag(source: Source, terms: &[Term]) -> usize
-    ensures value { result ≡ greatest_lag source terms.now }
-    ensures high { result ≤ 255 }
-{
-    let mut greatest = 0;
-    for term in terms {
-        if term.from == source {
-            greatest = greatest.max(usize::from(term.lag));
-        }
-    }
-    greatest
-}
-
 // The first rows that hold the inputs, and the row after the last of them.
-fn input_places(eqs: &Eqs) -> ([usize; 4], usize)
+fn input_places(eqs: &Eqs) -> ([usize; PORTS], usize)
     ensures holds { (j : _) → j < eqs.now.inputs → slice_index_or result.0 j 0 ≡ input_hold_place eqs.now j }
     ensures next { result.1 ≡ row_place eqs.now 0 }
-    ensures high { result.1 ≤ 255 * 4 }
+    ensures high { result.1 ≤ LONGEST_LAG * PORTS }
 {
-    let mut places = [0; 4];
+    let mut places = [0; PORTS];
     let mut next = 0;
     for j in 0..eqs.inputs() {
         places[j] = next;
-        next += greatest_lag(Source::In(j as u8), eqs.terms());
+        next += eqs.greatest_lag(Source::In(j as u8));
     }
     (places, next)
 }
 
 // The first rows that hold the rows, where `next` is the row after the last of the equations.
-fn row_places(eqs: &Eqs, next: usize) -> [usize; 24]
+fn row_places(eqs: &Eqs, next: usize) -> [usize; NET_ROWS]
     requires next { next ≡ row_place eqs.now eqs.now.rows }
-    requires high { next ≤ 255 * 5 }
+    requires high { next ≤ LONGEST_LAG * PORTS + NET_ROWS }
     ensures { (j : _) → j < eqs.now.rows → slice_index_or result j 0 ≡ row_hold_place eqs.now j }
 {
-    let mut places = [0; 24];
+    let mut places = [0; NET_ROWS];
     let mut next = next;
     for j in 0..eqs.rows() {
         places[j] = next;
-        next += greatest_lag(Source::Row(j as u8), eqs.terms()).saturating_sub(1);
+        next += eqs.greatest_lag(Source::Row(j as u8)).saturating_sub(1);
     }
     places
 }

@@ -4,11 +4,13 @@
 mod equations;
 mod laws;
 mod layout;
+mod limits;
 mod net;
 #[cfg(test)]
 mod tests;
 
 pub use laws::{
-    common_divides_each, each_net_has_a_run, equation_rows_have_the_exact_values, rows_stand,
+    each_net_has_a_run, equation_rows_have_the_exact_values, rows_stand,
 };
+pub use limits::{GREATEST_CLASS, LARGEST_NET, net_limits_are_these};
 pub use net::{Net, nets_fit, nets_have_a_denominator};

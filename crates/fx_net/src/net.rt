@@ -1,22 +1,23 @@
 ghost use Rattle.std.specs.Prelude.{◌≡◌, ◌<◌, ◌≤◌, IfOk};
-ghost use Rattle.fx_mat.specs.Entries.{zero_fraction};
-ghost use Rattle.fx_net.specs.Net.{NetFits, empty_net, plain, put_halves, put_input, put_now, put_old};
+ghost use Rattle.fx_net.specs.Net.{NetFits, empty_net, plain, put_class, put_input, put_now, put_old};
 ghost use Rattle.fx_net.specs.Run.{IsDenominator};
 ghost use Rattle.fx_net.specs.Running.{widest};
 ghost use Rattle.fx_net.specs.Tables.{net_of};
 
+use crate::limits::{GREATEST_CLASS, LARGEST_NET};
+use fx_eqs::PORTS;
 use fx_mat::{FracMat, entries_outside_are_zero};
 use fx_nums::Frac;
 use std::alloc::{AllocError, Global};
 use std::marker::Model;
 
-/// N rows, each with coefficients of rows of the same moment, of rows of the moment before and of four inputs, and with
-/// a class: how many half steps its perturbation may have. N is 1 to 64.
+/// N rows, each with coefficients of earlier rows of the same moment, of rows of the moment before and of `PORTS` inputs,
+/// and with a class: how many half steps its perturbation may have. N is 1 to `LARGEST_NET`.
 #[derive(Drop)]
 pub struct Net<const N: usize> {
-    present: FracMat<N, N>,
-    past: FracMat<N, N>,
-    inputs: FracMat<N, 4>,
+    now_table: FracMat<N, N>,
+    old_table: FracMat<N, N>,
+    input_table: FracMat<N, PORTS>,
     classes: Vec<u8>,
 }
 
@@ -25,9 +26,9 @@ impl<const N: usize> Model for Net<N> {
 
     ghost Value = { Tables };
 
-    ghost view = { λ n. record { size = N; present = n.present; past = n.past; inputs = n.inputs; classes = n.classes.items } };
+    ghost view = { λ n. record { size = N; now_table = n.now_table; old_table = n.old_table; input_table = n.input_table; classes = n.classes.items } };
 
-    ghost invariant = { λ n. TablesFit N n.present n.past n.inputs n.classes.items };
+    ghost invariant = { λ n. TablesFit (record { size = N; now_table = n.now_table; old_table = n.old_table; input_table = n.input_table; classes = n.classes.items }) };
 }
 
 // 0 over 10^0 for a fraction of value 0, each other as it is.
@@ -44,13 +45,13 @@ impl<const N: usize> Net<N> {
     /// A net whose rows read nothing and have class 0. Its error is want of memory.
     pub fn new(alloc: Global) -> Result<Net<N>, AllocError>
         requires low { 1 ≤ N }
-        requires high { N ≤ 64 }
+        requires high { N ≤ LARGEST_NET }
         ensures { IfOk result (λ n. net_of n ≡ empty_net N) }
     {
         Ok(Net {
-            present: FracMat::new(alloc)?,
-            past: FracMat::new(alloc)?,
-            inputs: FracMat::new(alloc)?,
+            now_table: FracMat::new(alloc)?,
+            old_table: FracMat::new(alloc)?,
+            input_table: FracMat::new(alloc)?,
             classes: vec![in alloc; 0; N]?,
         })
     }
@@ -59,9 +60,9 @@ impl<const N: usize> Net<N> {
     pub fn clear(&mut self)
         ensures { net_of self.new ≡ empty_net N }
     {
-        self.present.clear();
-        self.past.clear();
-        self.inputs.clear();
+        self.now_table.clear();
+        self.old_table.clear();
+        self.input_table.clear();
         self.classes.fill(0);
     }
 
@@ -72,7 +73,7 @@ impl<const N: usize> Net<N> {
         requires source { j < i }
         ensures { net_of self.new ≡ put_now i j c (net_of self.old) }
     {
-        self.present.set(i, j, plain(c));
+        self.now_table.set(i, j, plain(c));
     }
 
     /// Sets what row `i` takes of row `j` of the moment before; both are below N. A coefficient of value 0 is kept as 0
@@ -82,35 +83,35 @@ impl<const N: usize> Net<N> {
         requires source { j < N }
         ensures { net_of self.new ≡ put_old i j c (net_of self.old) }
     {
-        self.past.set(i, j, plain(c));
+        self.old_table.set(i, j, plain(c));
     }
 
-    /// Sets what row `i`, below N, takes of input `j`, below 4. A coefficient of value 0 is kept as 0 over 10^0.
+    /// Sets what row `i`, below N, takes of input `j`, below `PORTS`. A coefficient of value 0 is kept as 0 over 10^0.
     pub fn set_in(&mut self, i: usize, j: usize, c: Frac)
         requires row { i < N }
-        requires source { j < 4 }
+        requires source { j < PORTS }
         ensures { net_of self.new ≡ put_input i j c (net_of self.old) }
     {
-        self.inputs.set(i, j, plain(c));
+        self.input_table.set(i, j, plain(c));
     }
 
-    /// Sets the class of row `i`, below N: how many half steps its perturbation may have, at most 2.
+    /// Sets the class of row `i`, below N: how many half steps its perturbation may have, at most `GREATEST_CLASS`.
     #[tactic(auto, using(crate::proofs::Numbers::written_number))]
     pub fn set_halves(&mut self, i: usize, e: u8)
         requires row { i < N }
-        requires class { e ≤ 2 }
-        ensures { net_of self.new ≡ put_halves i e (net_of self.old) }
+        requires class { e ≤ GREATEST_CLASS }
+        ensures { net_of self.new ≡ put_class i e (net_of self.old) }
     {
         self.classes[i] = e;
     }
 
-    /// What row `i` takes of row `j` of the same moment; both are below N.
+    /// What row `i` takes of row `j` of the same moment, 0 unless `j` is below `i`; both are below N.
     pub fn now(&self, i: usize, j: usize) -> Frac
         requires row { i < N }
         requires source { j < N }
         ensures { result ≡ (net_of self.now).now i j }
     {
-        self.present.get(i, j)
+        self.now_table.get(i, j)
     }
 
     /// What row `i` takes of row `j` of the moment before; both are below N.
@@ -119,36 +120,37 @@ impl<const N: usize> Net<N> {
         requires source { j < N }
         ensures { result ≡ (net_of self.now).old i j }
     {
-        self.past.get(i, j)
+        self.old_table.get(i, j)
     }
 
-    /// What row `i`, below N, takes of input `j`, below 4.
+    /// What row `i`, below N, takes of input `j`, below `PORTS`.
     pub fn input(&self, i: usize, j: usize) -> Frac
         requires row { i < N }
-        requires source { j < 4 }
+        requires source { j < PORTS }
         ensures { result ≡ (net_of self.now).input i j }
     {
-        self.inputs.get(i, j)
+        self.input_table.get(i, j)
     }
 
-    /// The class of row `i`, below N: how many half steps its perturbation may have, at most 2.
+    /// The class of row `i`, below N: how many half steps its perturbation may have, at most `GREATEST_CLASS`.
     #[tactic(auto, using(crate::proofs::Numbers::number_read))]
     pub fn halves(&self, i: usize) -> u8
         requires row { i < N }
-        ensures value { result ≡ (net_of self.now).halves i }
-        ensures high { result ≤ 2 }
+        ensures value { result ≡ (net_of self.now).class i }
+        ensures high { result ≤ GREATEST_CLASS }
     {
         self.classes[i]
     }
 }
 
-/// A law with nothing to run: each net has N rows, nothing outside, and at most two half steps a row.
+/// A law with nothing to run: each net has N rows, 1 to `LARGEST_NET`, each of which takes only earlier rows of its own
+/// moment; nothing outside; and classes up to `GREATEST_CLASS`.
 pub fn nets_fit<const N: usize>(net: &Net<N>)
     ensures { NetFits N (net_of net.now) }
 {
-    entries_outside_are_zero(&net.present);
-    entries_outside_are_zero(&net.past);
-    entries_outside_are_zero(&net.inputs);
+    entries_outside_are_zero(&net.now_table);
+    entries_outside_are_zero(&net.old_table);
+    entries_outside_are_zero(&net.input_table);
     let _ = &net.classes;
 }
 

@@ -5,9 +5,9 @@ use mathlib.Core.Path.{fun_ext}
 use Rattle.std.proofs.lemmas.Bool.{eq-eqb, ne_eqb, and_left, and_right, and_from, cond-true, cond-false, cases_eq, lt-ltb, le-leb, ltb-true, true≢false}
 use Rattle.std.proofs.lemmas.List.Elements.{All-head, All-tail}
 use Rattle.std.proofs.lemmas.Map.Keys.{IsDistinct-tail}
-use Rattle.fx_nums.specs.Fraction.{Fraction}
+use Rattle.fx_nums.specs.Fraction.{Fraction, one_fraction}
 use Rattle.fx_mat.specs.Entries.{zero_fraction}
-use Rattle.fx_eqs.specs.Expanded.{NetRead, NetTerm, one}
+use Rattle.fx_eqs.specs.Expanded.{NetRead, NetTerm}
 use Rattle.fx_eqs.specs.Expanded.NetRead.{Now, Old, In}
 use Rattle.fx_eqs.proofs.Distinct.{distinct_head}
 use Rattle.fx_net.specs.Net.{Net, plain}
@@ -27,12 +27,12 @@ use Rattle.fx_sif.proofs.Placing.{length-rows, row-rows, place_below}
 -- ---- J
 
 -- the diagonal and what is above it, where nothing was given
-missing_unit : (t i j : ℕ) → i < t → IsUnitLower i j (cond (eqb i j && ltb i t) one zero_fraction)
+missing_unit : (t i j : ℕ) → i < t → IsUnitLower i j (cond (eqb i j && ltb i t) one_fraction zero_fraction)
 missing_unit t i j h = by_place (cases_eq i j)
   where
-    by_place : (i ≡ j) ⊎ (i ≡ j → ⊥) → IsUnitLower i j (cond (eqb i j && ltb i t) one zero_fraction)
-    by_place (inl a) = rw (cond-true (eqb i j && ltb i t) one zero_fraction (and_from _ _ (eq-eqb i j a) (lt-ltb i t h))) (record { diagonal = λ same. refl; above = λ less. let bad : ⊥ = omega (arith, a, less) in elim bad [ ] })
-    by_place (inr a) = rw (cond-false (eqb i j && ltb i t) one zero_fraction (and_left _ _ (ne_eqb i j a))) (record { diagonal = λ same. elim (a same) [ ]; above = λ less. refl })
+    by_place : (i ≡ j) ⊎ (i ≡ j → ⊥) → IsUnitLower i j (cond (eqb i j && ltb i t) one_fraction zero_fraction)
+    by_place (inl a) = rw (cond-true (eqb i j && ltb i t) one_fraction zero_fraction (and_from _ _ (eq-eqb i j a) (lt-ltb i t h))) (record { diagonal = λ same. refl; above = λ less. let bad : ⊥ = omega (arith, a, less) in elim bad [ ] })
+    by_place (inr a) = rw (cond-false (eqb i j && ltb i t) one_fraction zero_fraction (and_left _ _ (ne_eqb i j a))) (record { diagonal = λ same. elim (a same) [ ]; above = λ less. refl })
 
 given_unit : (s : Sizes) (i j : ℕ) (d : Fraction) (es : List Entry) → All (EntryFits s) es → IsUnitLower i j d → IsUnitLower i j (given_or d J i j es)
 given_unit s i j d [] fits start = start
@@ -142,7 +142,7 @@ taken-is rows at r net (In a) h = row_takes _ _ rows at r _ h (input_reads a)
 missing_zero : (s : Sizes) (b : Block) (i j : ℕ) → is_read b i j ≡ true → zero_fraction ≡ plain (on_the_right b (not_given s b i j))
 missing_zero s J i j h =
     let below : j < i = ltb-true j i h in
-    let other : cond (eqb i j && ltb i s.t) one zero_fraction ≡ zero_fraction = cond-false _ _ _ (and_left _ _ (ne_eqb i j (λ e. omega (arith, below, e)))) in
+    let other : cond (eqb i j && ltb i s.t) one_fraction zero_fraction ≡ zero_fraction = cond-false _ _ _ (and_left _ _ (ne_eqb i j (λ e. omega (arith, below, e)))) in
     ap (λ x. plain (on_the_right J x)) (sym other)
 missing_zero s K i j h = refl
 missing_zero s L i j h = refl

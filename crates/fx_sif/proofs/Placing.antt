@@ -5,9 +5,10 @@ use Rattle.std.proofs.lemmas.Bool.{eq-eqb, ne_eqb, and_left, and_right, and_from
 use Rattle.std.proofs.lemmas.List.Elements.{All-head, All-tail}
 use Rattle.std.proofs.lemmas.List.{get_or_append_left}
 use Rattle.std.proofs.Math.Seq.{get_or-append_seam}
+use Rattle.fx_math.specs.Sums.{joined}
 use Rattle.fx_nums.specs.Fraction.{Fraction}
 use Rattle.fx_mat.specs.Entries.{zero_fraction}
-use Rattle.fx_eqs.specs.Expanded.{NetRead, NetTerm, joined}
+use Rattle.fx_eqs.specs.Expanded.{NetRead, NetTerm}
 use Rattle.fx_eqs.specs.Expanded.NetRead.{Now, Old, In}
 use Rattle.fx_net.specs.Net.{Net, plain}
 use Rattle.fx_net.specs.Rows.{reads_now, reads_old, reads_input, coefficient_or, coefficient, row_of, is_within, put_table, put_rows, put_term, AreEmpty}
@@ -161,18 +162,18 @@ module _ (table : Net → ℕ → ℕ → Fraction) (reads : ℕ → ℕ → Net
 -- ---- the whole net
 
 -- classes and the count of rows stay
-entry_keeps : (s : Sizes) (at : ℕ) (e : Entry) (net : Net) → ((put_entry s at e net).halves ≡ net.halves) × ((put_entry s at e net).rows ≡ net.rows)
+entry_keeps : (s : Sizes) (at : ℕ) (e : Entry) (net : Net) → ((put_entry s at e net).class ≡ net.class) × ((put_entry s at e net).rows ≡ net.rows)
 entry_keeps s at e net = by_test (is_read e.block e.i e.j) (net_read s e.block e.j)
   where
     by_test : (b : Bool) (from : NetRead) →
-        ((cond b (put_term at (row_place s e.block e.i) (on_the_right e.block e.coef) from net) net).halves ≡ net.halves)
+        ((cond b (put_term at (row_place s e.block e.i) (on_the_right e.block e.coef) from net) net).class ≡ net.class)
         × ((cond b (put_term at (row_place s e.block e.i) (on_the_right e.block e.coef) from net) net).rows ≡ net.rows)
     by_test true (Now j) = (refl, refl)
     by_test true (Old j) = (refl, refl)
     by_test true (In j) = (refl, refl)
     by_test false from = (refl, refl)
 
-entries_keep : (s : Sizes) (at : ℕ) (es : List Entry) (net : Net) → ((put_entries s at es net).halves ≡ net.halves) × ((put_entries s at es net).rows ≡ net.rows)
+entries_keep : (s : Sizes) (at : ℕ) (es : List Entry) (net : Net) → ((put_entries s at es net).class ≡ net.class) × ((put_entries s at es net).rows ≡ net.rows)
 entries_keep s at [] net = (refl, refl)
 entries_keep s at (e ∷ es) net =
     let rest = entries_keep s at es (put_entry s at e net) in
@@ -180,21 +181,21 @@ entries_keep s at (e ∷ es) net =
     (rest.0 ∙ first.0, rest.1 ∙ first.1)
 
 -- empty rows have class 0
-halves_are : (at count : ℕ) (net : Net) → ((i : ℕ) → at ≤ i → i < at + count → net.halves i ≡ 0) → net.halves ≡ (λ i. cond (is_within at count i) 0 (net.halves i))
-halves_are at count net empty = fun_ext (λ i. by_place i (cases_lt i at) (cases_lt i (at + count)))
+class_is : (at count : ℕ) (net : Net) → ((i : ℕ) → at ≤ i → i < at + count → net.class i ≡ 0) → net.class ≡ (λ i. cond (is_within at count i) 0 (net.class i))
+class_is at count net empty = fun_ext (λ i. by_place i (cases_lt i at) (cases_lt i (at + count)))
   where
-    by_place : (i : ℕ) → (i < at) ⊎ (at ≤ i) → (i < at + count) ⊎ (at + count ≤ i) → net.halves i ≡ cond (is_within at count i) 0 (net.halves i)
+    by_place : (i : ℕ) → (i < at) ⊎ (at ≤ i) → (i < at + count) ⊎ (at + count ≤ i) → net.class i ≡ cond (is_within at count i) 0 (net.class i)
     by_place i (inl l) _ = sym (cond-false _ _ _ (and_left _ _ (lt-leb at i l)))
     by_place i (inr l) (inr h) = sym (cond-false _ _ _ (and_right _ _ (le-ltb i (at + count) h)))
     by_place i (inr l) (inl h) = empty i l h ∙ sym (cond-true _ _ _ (and_from _ _ (le-leb at i l) (lt-ltb i (at + count) h)))
 
 -- nets are equal where their parts are
 abbrev made : ℕ → (ℕ → ℕ → Fraction) → (ℕ → ℕ → Fraction) → (ℕ → ℕ → Fraction) → (ℕ → ℕ) → Net
-made n now old input halves = record { rows = n; now = now; old = old; input = input; halves = halves }
+made n now old input class = record { rows = n; now = now; old = old; input = input; class = class }
 
-same_net : (n m : ℕ) (now now' old old' input input' : ℕ → ℕ → Fraction) (halves halves' : ℕ → ℕ) → n ≡ m → now ≡ now' → old ≡ old' → input ≡ input' → halves ≡ halves' →
-    made n now old input halves ≡ made m now' old' input' halves'
-same_net n m now now' old old' input input' halves halves' a b c d e = rw (a, b, c, d, e) refl
+same_net : (n m : ℕ) (now now' old old' input input' : ℕ → ℕ → Fraction) (class class' : ℕ → ℕ) → n ≡ m → now ≡ now' → old ≡ old' → input ≡ input' → class ≡ class' →
+    made n now old input class ≡ made m now' old' input' class'
+same_net n m now now' old old' input input' class class' a b c d e = rw (a, b, c, d, e) refl
 
 pub entries_make_rows : (f : Form) (at : ℕ) (net : Net) → All (EntryFits f.sizes) f.entries → AreEmpty at (rows f.sizes) net → put_entries f.sizes at f.entries net ≡ put_rows (rows_of f) at net
 unfolding put_rows
@@ -205,4 +206,4 @@ entries_make_rows f at net fits empty =
     (table_is (λ net. net.now) reads_now now-takes f at net fits empty.now)
     (table_is (λ net. net.old) reads_old old-takes f at net fits empty.old)
     (table_is (λ net. net.input) (λ at j from. reads_input j from) input-takes f at net fits empty.input)
-    (keeps.0 ∙ halves_are at (rows f.sizes) net empty.halves ∙ ap (λ n i. cond (is_within at n i) 0 (net.halves i)) (sym (length-rows f)))
+    (keeps.0 ∙ class_is at (rows f.sizes) net empty.class ∙ ap (λ n i. cond (is_within at n i) 0 (net.class i)) (sym (length-rows f)))

@@ -1,8 +1,7 @@
 -- Filters in implicit form, as contracts see them.
 use Rattle.std.specs.Prelude.{ℕ, ◌+◌, ◌==◌, ◌&&◌, nat_lt, cond, List, [], ◌∷◌}
-use Rattle.fx_nums.specs.Fraction.{Fraction}
+use Rattle.fx_nums.specs.Fraction.{Fraction, one_fraction}
 use Rattle.fx_mat.specs.Entries.{zero_fraction}
-use Rattle.fx_eqs.specs.Expanded.{one}
 use Rattle.fx_sif.specs.Blocks.{is_at}
 use Rattle.fx_sif.specs.declared.parts.Block.{Block}
 use Rattle.fx_sif.specs.declared.parts.Block.TheVariants.{J}
@@ -20,7 +19,7 @@ rows s = s.t + s.x + s.y
 
 -- what stands where nothing was given: 1 on the diagonal of J, else 0
 abbrev pub not_given : Sizes → Block → ℕ → ℕ → Fraction
-not_given s J i j = cond (i == j && nat_lt i s.t) one zero_fraction
+not_given s J i j = cond (i == j && nat_lt i s.t) one_fraction zero_fraction
 not_given s _ i j = zero_fraction
 
 -- the coefficient of the first entry in a place; this one where there is none

@@ -1,9 +1,9 @@
 -- The rows of an implicit form in a net: each row reads rows of this moment or of the one before, and inputs of this moment.
 use Rattle.std.specs.Prelude.{ℕ, ◌+◌, ◌==◌, ◌&&◌, nat_lt, cond, Bool, true, List, [], ◌∷◌, map, filter}
-use Rattle.fx_nums.specs.Fraction.{Fraction}
-use Rattle.fx_eqs.specs.Expanded.{NetRead, NetTerm, joined}
+use Rattle.fx_math.specs.Sums.{joined}
+use Rattle.fx_nums.specs.Fraction.{Fraction, minus}
+use Rattle.fx_eqs.specs.Expanded.{NetRead, NetTerm}
 use Rattle.fx_eqs.specs.Expanded.NetRead.{Now, Old, In}
-use Rattle.fx_eqs.specs.Textbook.{opposite}
 use Rattle.fx_net.specs.Net.{Net}
 use Rattle.fx_net.specs.Rows.{put_term}
 use Rattle.fx_sif.specs.Form.{Form, rows}
@@ -38,7 +38,7 @@ net_read s S j = In j
 
 -- J stands on the other side of its equation
 abbrev pub on_the_right : Block → Fraction → Fraction
-on_the_right J c = opposite c
+on_the_right J c = minus c
 on_the_right _ c = c
 
 -- of J only what is below the diagonal is read

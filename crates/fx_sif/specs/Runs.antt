@@ -1,10 +1,11 @@
 -- The runs of an implicit form alone.
 use Rattle.std.specs.Prelude.{◌≡◌, ℕ, ◌+◌, ◌-◌, ◌*◌, ◌^◌, ◌<◌, All, ℤ, pos, ◌+ℤ◌, ◌*ℤ◌, List, [], ◌∷◌}
+use Rattle.fx_math.specs.Unroll.{before}
 use Rattle.fx_nums.specs.Fraction.{over, IsWholeOver}
 use Rattle.fx_eqs.specs.Expanded.{NetRead, NetTerm}
 use Rattle.fx_eqs.specs.Expanded.NetRead.{Now, Old, In}
 use Rattle.fx_net.specs.Net.{plain}
-use Rattle.fx_net.specs.Run.{before, IsDenominator, IsRun}
+use Rattle.fx_net.specs.Run.{IsDenominator, IsRun}
 use Rattle.fx_sif.specs.Form.{Form, rows}
 use Rattle.fx_sif.specs.Rows.{net_row}
 use Rattle.fx_sif.specs.SameOutputs.{net_alone}

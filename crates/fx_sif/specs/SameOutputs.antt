@@ -1,11 +1,12 @@
 -- When an implicit form puts out the same as an equation system.
 use Rattle.std.specs.Prelude.{◌≡◌, ℕ, ◌+◌, ◌*◌, ◌^◌, ◌<◌, ℤ, pos, ◌*ℤ◌, length, slice_index_or}
+use Rattle.fx_eqs.specs.Denominator.{DividesEach}
+use Rattle.fx_math.specs.Ratio.{SameValue}
 use Rattle.fx_eqs.specs.Equations.{Equations}
-use Rattle.fx_eqs.specs.ExactRun.{exact_value}
-use Rattle.fx_net.specs.Laws.{DividesEach}
+use Rattle.fx_eqs.specs.ExactRun.{row_value}
 use Rattle.fx_net.specs.Net.{Net, empty_net}
 use Rattle.fx_net.specs.Rows.{put_rows}
-use Rattle.fx_net.specs.Run.{IsDenominator, IsRun, row_time}
+use Rattle.fx_net.specs.Run.{IsDenominator, IsRun, net_value}
 use Rattle.fx_sif.specs.Form.{Form, rows}
 use Rattle.fx_sif.specs.Rows.{rows_of}
 
@@ -23,8 +24,7 @@ equations_output eqs o = slice_index_or eqs.outputs o 0
 -- output o is the same at moment k: z over powers of q in the net, the exact value over powers of g in the equations
 abbrev pub IsSameOutput : Form → Equations → ℕ → ℕ → (ℕ → ℕ → ℤ) → (ℕ → ℕ → ℤ) → ℕ → ℕ → Type 0
 IsSameOutput f eqs q g u z k o =
-    let i = equations_output eqs o in
-    z k (form_output f o) *ℤ pos (g ^ (k * eqs.rows + i + 1)) ≡ exact_value eqs g u k i *ℤ pos (q ^ (row_time (net_alone f) k (form_output f o) + 1))
+    SameValue (net_value (net_alone f) q z k (form_output f o)) (row_value eqs g u k (equations_output eqs o))
 
 -- as many inputs and outputs, and the same outputs in each run without perturbation, whatever the inputs
 pub record HasOutputs (f : Form) (eqs : Equations) : Type 0 where

@@ -1,19 +1,19 @@
 -- How many terms there are.
 use Rattle.std.proofs.Common.{◌≡◌, ℕ, zero, suc, ◌+◌, ◌*◌, ◌≤◌, List, [], ◌∷◌, ◌++◌, length, length-append, length-take, length-drop, take, drop, map, refl, arith}
 use Rattle.std.proofs.lemmas.List.{length-map}
-use Rattle.fx_nums.specs.Fraction.{Fraction}
-use Rattle.fx_eqs.specs.Textbook.{backward, backward_rows, forward_rows, lattice_terms, matrix_rows, opposite, over_lags, over_sources, recursion, sections, ss_terms, tf_terms}
+use Rattle.fx_nums.specs.Fraction.{Fraction, minus}
+use Rattle.fx_eqs.specs.Textbook.{backward, backward_rows, forward_rows, lattice_terms, matrix_rows, over_lags, over_sources, recursion, sections, ss_terms, tf_terms}
 use Rattle.fx_eqs.specs.declared.term.Source.{Source}
 use Rattle.fx_eqs.specs.declared.term.Source.TheVariants.{Row, In}
 use Rattle.fx_eqs.proofs.Parts.{length-over_lags, length-over_sources}
 
 recursion_count : (row : ℕ) (from : Source) (b a : List Fraction) → length (recursion row from b a) ≤ length b + length a
 recursion_count row from b a =
-    let fed = map opposite (drop 1 a) in
+    let fed = map minus (drop 1 a) in
     let whole = length-append (over_lags row from 0 b) (over_lags row (Row row) 1 fed) in
     let x = length-over_lags row from 0 b in
     let y = length-over_lags row (Row row) 1 fed in
-    let z = length-map (drop 1 a) opposite in
+    let z = length-map (drop 1 a) minus in
     let w = length-drop 1 a in
     omega arith
 

@@ -1,8 +1,8 @@
 //! The terms of each form, in the order written.
 
 ghost use Rattle.std.specs.Prelude.{◌≡◌, ◌≤◌, ◌<◌, ◌+◌, ◌*◌, ◌^◌, ◌++◌, [], ◌∷◌, length, map, drop, OnOk, IfOk};
-ghost use Rattle.fx_eqs.specs.Expanded.{one};
-ghost use Rattle.fx_eqs.specs.Textbook.{backward, backward_rows, forward, forward_rows, lattice_terms, matrix_rows, opposite, over_lags, over_sources, recursion, sections, sos_terms, ss_terms, tf_terms};
+ghost use Rattle.fx_nums.specs.Fraction.{one_fraction, minus};
+ghost use Rattle.fx_eqs.specs.Textbook.{backward, backward_rows, forward, forward_rows, lattice_terms, matrix_rows, over_lags, over_sources, recursion, sections, sos_terms, ss_terms, tf_terms};
 ghost use Rattle.fx_eqs.specs.declared.term.Source.TheVariants.{Row, In};
 ghost use Rattle.fx_textbook.specs.Shapes.{SpaceFits};
 
@@ -51,7 +51,7 @@ fn against_lags(
     coefficients: &[Frac],
 ) -> Result<(), AllocError>
     requires { first + length coefficients.now ≤ 200 }
-    ensures { OnOk result (terms.new.items ≡ terms.old.items ++ over_lags row from first (map opposite coefficients.now)) }
+    ensures { OnOk result (terms.new.items ≡ terms.old.items ++ over_lags row from first (map minus coefficients.now)) }
 {
     let mut lag = first;
     for coef in coefficients {

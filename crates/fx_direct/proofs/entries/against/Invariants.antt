@@ -1,10 +1,10 @@
 use Rattle.std.proofs.Common.{◌≡◌, ◌+◌, ◌++◌, drop, map}
-use Rattle.fx_eqs.specs.Textbook.{opposite}
+use Rattle.fx_nums.specs.Fraction.{minus}
 use Rattle.fx_direct.specs.Entries.{across}
 use Rattle.fx_direct.proofs.entries.against.Given as goal
 
 abbrev pub invariant-loop-coef : goal.invariant-loop-coef
 invariant-loop-coef l = record {
   column : l.column ≡ l.first + l.coef-index;
-  reads : l.entries.items ++ across l.block 0 l.column (map opposite (drop l.coef-index l.coefficients)) ≡ l.fn.entries.items ++ across l.block 0 l.first (map opposite l.coefficients);
+  reads : l.entries.items ++ across l.block 0 l.column (map minus (drop l.coef-index l.coefficients)) ≡ l.fn.entries.items ++ across l.block 0 l.first (map minus l.coefficients);
 }

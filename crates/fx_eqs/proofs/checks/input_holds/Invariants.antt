@@ -1,6 +1,7 @@
 use Rattle.std.proofs.Common.{◌≡◌, ◌≤◌, ◌*◌, filter}
 use Rattle.fx_eqs.specs.Equations.{is_kept}
-use Rattle.fx_eqs.specs.Lags.{greatest_lag, sum_below}
+use Rattle.fx_math.specs.Sums.{sum_below}
+use Rattle.fx_eqs.specs.Lags.{greatest_lag}
 use Rattle.fx_eqs.specs.declared.term.Source.TheVariants.{In}
 use Rattle.fx_eqs.proofs.checks.input_holds.Given as goal
 

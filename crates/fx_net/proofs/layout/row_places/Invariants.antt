@@ -1,11 +1,12 @@
 use Rattle.std.proofs.Common.{◌≡◌, ◌≤◌, ◌<◌, ◌*◌, ◌+◌, ℕ, get_or, length}
 use Rattle.fx_eqs.specs.Expanded.{row_hold_place}
+use Rattle.fx_eqs.specs.declared.limits.TheConstants.{PORTS, NET_ROWS, LONGEST_LAG}
 use Rattle.fx_net.proofs.layout.row_places.Given as goal
 
 abbrev pub invariant-loop-j : goal.invariant-loop-j
 invariant-loop-j l = record {
   next : l.next ≡ row_hold_place l.eqs l.j;
-  high : l.next ≤ 255 * 5 + 255 * l.j;
-  count : length l.places ≡ 24;
+  high : l.next ≤ LONGEST_LAG * PORTS + NET_ROWS + LONGEST_LAG * l.j;
+  count : length l.places ≡ NET_ROWS;
   places : (k : ℕ) → k < l.j → get_or l.places k 0 ≡ row_hold_place l.eqs k;
 }

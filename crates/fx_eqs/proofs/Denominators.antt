@@ -1,5 +1,5 @@
 -- The common denominator of an equation system is one of each coefficient.
-use Rattle.std.proofs.Common.{◌≡◌, ℕ, ◌+◌, ◌-◌, ◌*◌, ◌/◌, ◌^◌, ◌<◌, ◌≤◌, max, List, [], ◌∷◌, length, get_or, zero, suc, arith, refl, ap, ap₂, sym, ◌∙◌, inl, inr}
+use Rattle.std.proofs.Common.{◌≡◌, ℕ, ◌+◌, ◌-◌, ◌*◌, ◌/◌, ◌^◌, ◌<◌, ◌≤◌, max, List, [], ◌∷◌, length, get_or, zero, suc, arith, refl, ap, ap₂, sym, subst, ◌∙◌, inl, inr}
 use Rattle.std.proofs.Math.Nat.{pow-le-pow_right, pow-zero, one-le-pow, mul-div_left, max-eq_right, max-eq_left}
 use Rattle.std.proofs.lemmas.Bool.{cases_lt}
 use Rattle.std.proofs.lemmas.Nat.{pow-add}
@@ -9,7 +9,7 @@ use Rattle.fx_nums.specs.declared.fraction.Den.TheVariants.{Two, Ten}
 use Rattle.fx_eqs.specs.Denominator.{two_part, ten_part, greatest, common}
 use Rattle.fx_eqs.specs.Equations.{Equations}
 use Rattle.fx_eqs.specs.declared.term.Term.{Term}
-use Rattle.fx_net.specs.Laws.{DividesEach}
+use Rattle.fx_eqs.specs.Laws.{CommonDividesEach}
 
 -- a multiple of d
 multiple : (d m n : ℕ) → 0 < d → n ≡ d * m → d * (n / d) ≡ n
@@ -73,7 +73,23 @@ pub whole_product : (c : Den) (a b : ℕ) → (m : ℕ) × (a ≡ two_part c * m
 whole_product (Two e) a b two ten = multiple (2 ^ e) (two.0 * b) (a * b) (one-le-pow e 2 (omega arith)) (omega (arith, ap (λ x. x * b) two.1))
 whole_product (Ten d) a b two ten = multiple (10 ^ d) (a * ten.0) (a * b) (one-le-pow d 10 (omega arith)) (omega (arith, ap (λ x. a * x) ten.1))
 
-pub common_divides : (s : Equations) → DividesEach (common s) s.terms
-common_divides s k d h =
-    whole_product (get_or s.terms k d).coef.den (greatest two_part s.terms) (greatest ten_part s.terms)
-    (each_divides 2 (omega arith) two_part two_exponent two_is s.terms k d h) (each_divides 10 (omega arith) ten_part ten_exponent ten_is s.terms k d h)
+one_at_least : (part : Den → ℕ) (ts : List Term) → 1 ≤ greatest part ts
+one_at_least part [] = omega arith
+one_at_least part (t ∷ ts) = let rest = one_at_least part ts in omega arith
+
+pub common_is_denominator : CommonDividesEach
+common_is_denominator s =
+    let two = greatest two_part s.terms in
+    let ten = greatest ten_part s.terms in
+    (mul-pos two ten (one_at_least two_part s.terms) (one_at_least ten_part s.terms), λ m k d h.
+    let p = each_divides 2 (omega arith) two_part two_exponent two_is s.terms k d h in
+    let q = each_divides 10 (omega arith) ten_part ten_exponent ten_is s.terms k d h in
+    let c = (get_or s.terms k d).coef.den in
+    let multiple_of : (n : ℕ) × (ten * m ≡ ten_part c * n) = (q.0 * m, omega (arith, ap (λ n. n * m) q.1)) in
+    let same : two * (ten * m) ≡ two * ten * m = omega arith in
+    subst (λ n. den_value c * (n / den_value c) ≡ n) same (whole_product c two (ten * m) p multiple_of))
+  where
+    mul-pos : (a b : ℕ) → 1 ≤ a → 1 ≤ b → 0 < a * b
+    mul-pos zero b h l = absurd (omega arith)
+    mul-pos (suc a) zero h l = absurd (omega arith)
+    mul-pos (suc a) (suc b) h l = omega arith
