@@ -13,6 +13,10 @@ abbrev pub MeetsEquations : Equations → Type 0
 MeetsEquations s =
     (q : ℕ) (u : ℕ → ℕ → ℤ) (k i : ℕ) → i < s.rows → exact_value s q u k i ≡ terms_sum s q u k i (λ l j. lagged (exact_value s q u) k l j) s.terms
 
+-- so it is in each system within the limits
+abbrev pub SystemsMeetTheirEquations : Type 0
+SystemsMeetTheirEquations = (s : Equations) → EquationsFit s → MeetsEquations s
+
 -- terms are never refused where those that are kept make a system within the limits
 abbrev pub WhatFitsHasNoFault : Type 0
 WhatFitsHasNoFault =

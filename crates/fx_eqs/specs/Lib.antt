@@ -8,3 +8,4 @@ pub mod Inside
 pub mod Lags
 pub mod Laws
 pub mod Textbook
+pub mod Values

@@ -1,6 +1,6 @@
 ghost use Rattle.std.specs.Prelude.{◌≡◌, ◌+◌, ◌*◌, ◌≤◌, length, None};
 ghost use Rattle.fx_eqs.specs.Faults.{eqs_fault};
-ghost use Rattle.fx_eqs.specs.Laws.{CommonDividesEach, WhatFitsHasNoFault};
+ghost use Rattle.fx_eqs.specs.Laws.{CommonDividesEach, SystemsMeetTheirEquations, WhatFitsHasNoFault};
 ghost use Rattle.fx_eqs.specs.Textbook.{lattice_terms, sos_terms, ss_terms, tf_terms};
 
 use crate::limits::{COEFFICIENTS, PORTS, REFLECTIONS, SECTIONS, STATES};
@@ -10,6 +10,11 @@ use fx_nums::Frac;
 /// the limits.
 pub fn what_fits_has_no_fault()
     ensures { WhatFitsHasNoFault }
+{}
+
+/// A law with nothing to run: the exact values of each system within the limits meet its equations.
+pub fn exact_values_meet_their_equations()
+    ensures { SystemsMeetTheirEquations }
 {}
 
 /// A law with nothing to run: the terms of a transfer function with at most `COEFFICIENTS` coefficients above and below are

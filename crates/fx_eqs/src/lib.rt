@@ -12,12 +12,12 @@ mod tests;
 
 pub use fault::EqsFault;
 pub use laws::{
-    cascades_have_no_fault, common_divides_each, lattices_have_no_fault,
+    cascades_have_no_fault, common_divides_each, exact_values_meet_their_equations, lattices_have_no_fault,
     state_spaces_have_no_fault, transfer_functions_have_no_fault, what_fits_has_no_fault,
 };
 pub use limits::{
     COEFFICIENTS, EQUATION_TERMS, LONGEST_LAG, NET_ROWS, PORTS, REFLECTIONS, SECTIONS, STATES,
     equation_limits_are_these, form_limits_are_these,
 };
-pub use system::{Eqs, exact_values_meet_their_equations, systems_fit};
+pub use system::{Eqs, systems_fit};
 pub use term::{Source, Term};

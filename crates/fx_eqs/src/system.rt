@@ -5,7 +5,6 @@ ghost use Rattle.fx_math.specs.Answers.{fault_told};
 ghost use Rattle.fx_eqs.specs.Faults.{eqs_fault, is_memory};
 ghost use Rattle.fx_eqs.specs.Fits.{EquationsFit, TermFits};
 ghost use Rattle.fx_eqs.specs.Lags.{greatest_lag, net_rows};
-ghost use Rattle.fx_eqs.specs.Laws.{MeetsEquations};
 
 use crate::checks::{eqs_fault, greatest_lag, kept_terms, net_rows};
 use crate::fault::EqsFault;
@@ -151,11 +150,4 @@ pub fn systems_fit(system: &Eqs)
     ensures { EquationsFit system.now }
 {
     let _ = &system.rows;
-}
-
-/// A law with nothing to run: the exact values meet the equations.
-pub fn exact_values_meet_their_equations(system: &Eqs)
-    ensures { MeetsEquations system.now }
-{
-    systems_fit(system);
 }

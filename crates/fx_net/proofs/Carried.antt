@@ -6,9 +6,11 @@ use Rattle.std.proofs.lemmas.Int.{ints}
 use Rattle.std.proofs.lemmas.Nat.{pow-add}
 use Rattle.fx_math.proofs.Ring.{mul_comm, mul_assoc}
 use Rattle.fx_math.specs.Unroll.{lagged, before}
+use Rattle.fx_math.specs.Ratio.{Ratio, SameValue}
 use Rattle.fx_nums.specs.Fraction.{Fraction, over, IsWholeOver, den_value}
+use Rattle.fx_eqs.specs.Values.{whole}
 use Rattle.fx_net.specs.Net.{Net}
-use Rattle.fx_net.specs.Run.{row_time}
+use Rattle.fx_net.specs.Run.{net_value, row_time}
 
 -- what row r reads at moment k, each source brought to the row's denominator
 abbrev pub of_now : ℕ → (ℕ → ℕ → ℤ) → ℕ → ℕ → ℕ → ℤ
@@ -170,3 +172,20 @@ keep_held net q g n y z k r s j a h e c =
 pub keep_first : (net : Net) (q g n : ℕ) (y z : ℕ → ℕ → ℤ) (r s j a : ℕ) → z 0 r ≡ pos q *ℤ of_old net q z 0 r s → Carries net q g n y z 0 r j (suc a)
 unfolding Carries
 keep_first net q g n y z r s j a e = ap (λ x. x *ℤ pos (g ^ (0 * n + j + 1))) e ∙ omega (arith, ints)
+
+-- ---- values of rows that hold
+
+-- a row that holds what row s held before has its value
+pub kept_value : (net : Net) (q : ℕ) (z : ℕ → ℕ → ℤ) (k r s : ℕ) (value : Ratio) → s < net.rows → z (suc k) r ≡ pos q *ℤ of_old net q z (suc k) r s →
+    SameValue (net_value net q z k s) value → SameValue (net_value net q z (suc k) r) value
+kept_value net q z k r s value h e same =
+    let d = q ^ (net.rows + r - s - 1) * q in
+    let t : row_time net k s + 1 + (net.rows + r - s - 1) + 1 ≡ row_time net (suc k) r + 1 = omega arith in
+    ap (λ x. x *ℤ pos value.den) (e ∙ right q (q ^ (net.rows + r - s - 1)) d (z k s) (omega arith))
+    ∙ swapped (z k s) d value.den
+    ∙ ap (λ x. x *ℤ pos d) same
+    ∙ gather (q ^ (row_time net k s + 1)) d (q ^ (row_time net (suc k) r + 1)) value.num (powers_to q (row_time net k s + 1) (net.rows + r - s - 1) (row_time net (suc k) r + 1) t)
+
+-- at the first moment that is nothing
+pub kept_first : (net : Net) (q : ℕ) (z : ℕ → ℕ → ℤ) (r s : ℕ) → z 0 r ≡ pos q *ℤ of_old net q z 0 r s → SameValue (net_value net q z 0 r) (whole (pos 0))
+kept_first net q z r s e = ap (λ x. x *ℤ pos 1) e ∙ omega (arith, ints)

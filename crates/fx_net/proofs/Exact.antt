@@ -5,17 +5,19 @@ use Rattle.std.proofs.lemmas.Int.{ints}
 use Rattle.std.proofs.lemmas.Bool.{cases_lt, cases_eq, eq-eqb, ne_eqb}
 use Rattle.std.proofs.lemmas.List.Elements.{All-head, All-tail}
 use Rattle.fx_math.proofs.Ring.{add-mul}
+use Rattle.fx_math.specs.Ratio.{SameValue}
 use Rattle.fx_math.specs.Unroll.{lagged}
 use Rattle.fx_eqs.specs.declared.limits.TheConstants.{PORTS}
 use Rattle.fx_eqs.specs.Denominator.{DividesEach}
 use Rattle.fx_nums.specs.Fraction.{over, IsWholeOver, one_fraction}
 use Rattle.fx_eqs.specs.Equations.{Equations}
-use Rattle.fx_eqs.specs.ExactRun.{exact_value, terms_sum, value_read}
+use Rattle.fx_eqs.specs.ExactRun.{exact_value, row_value, terms_sum, value_read}
 use Rattle.fx_eqs.specs.Expanded.{NetRead, NetTerm, expanded, net_read, input_hold_place, row_place, row_hold_place}
 use Rattle.fx_eqs.specs.Expanded.NetRead.{Old, In}
 use Rattle.fx_eqs.specs.Fits.{EquationsFit, IsThereByThen}
 use Rattle.fx_eqs.specs.Lags.{greatest_lag}
 use Rattle.fx_eqs.specs.Laws.{MeetsEquations}
+use Rattle.fx_eqs.specs.Values.{earlier, whole}
 use Rattle.fx_eqs.specs.declared.term.Source.{Source}
 use Rattle.fx_eqs.specs.declared.term.Source.TheVariants.{Row, In as Input}
 use Rattle.fx_eqs.specs.declared.term.Term.{Term}
@@ -23,9 +25,9 @@ use Rattle.fx_net.specs.Layout.{IsRead}
 use Rattle.fx_net.specs.Laws.{AreUnperturbed, HasExactValues}
 use Rattle.fx_net.specs.Net.{Net}
 use Rattle.fx_net.specs.Rows.{reads_now, reads_old, reads_input, coefficient, row_of, HoldsRows, ReadFits}
-use Rattle.fx_net.specs.Run.{IsDenominator, IsRun, row_time, row_sum}
+use Rattle.fx_net.specs.Run.{IsDenominator, IsRun, net_value, row_time, row_sum}
 use Rattle.fx_net.proofs.Apart.{Stands, terms_once}
-use Rattle.fx_net.proofs.Carried.{of_now, of_old, of_input, swapped, one_power, no_power, crossed, one_term, Carries, carries, carried, CarriesInput, now_source, old_source, held_source, hold_input, hold_held, hold_first, keep_held, keep_first}
+use Rattle.fx_net.proofs.Carried.{of_now, of_old, of_input, swapped, one_power, no_power, crossed, one_term, Carries, carries, carried, CarriesInput, now_source, old_source, held_source, hold_input, hold_held, hold_first, keep_held, keep_first, kept_first, kept_value, carried_input}
 use Rattle.fx_net.proofs.Coefficients.{AreOnce, AllFit, value_at, net_sum}
 use Rattle.fx_net.proofs.Positions.{at_input_hold, at_row, at_row_hold, row_inside, row_hold_inside, input_hold_inside}
 use Rattle.fx_net.proofs.Sources.{net_terms, takes, passes_over, read_fits, lag_high}
@@ -226,12 +228,38 @@ module _ (s : Equations) (net : Net) (at q g : ℕ) (u z : ℕ → ℕ → ℤ)
     inputs = λ j l h m. hold_at k j l h m (before_all k);
   }
 
-  -- each equation row has its exact values
-  pub exact_in_net : HasExactValues s g net q at u z
+  -- each row has its exact value
+  row_exact : (k i : ℕ) → i < s.rows → SameValue (net_value net q z k (row i)) (row_value s g u k i)
   unfolding Before
-  exact_in_net k i h =
+  row_exact k i h =
       carried net q g s.rows y z k (row i) i 0 ((before_all (suc k)).rows i h)
       ∙ ap (λ n. y k i *ℤ pos n) (ap (λ m. m * q ^ (row_time net k (row i) + 1)) (no_power g s.rows) ∙ (let o : 1 * q ^ (row_time net k (row i) + 1) ≡ q ^ (row_time net k (row i) + 1) = omega arith in o))
+
+  input_hold_exact : (k j l : ℕ) → j < s.inputs → l < greatest_lag (Input j) s.terms → SameValue (net_value net q z k (hold j l)) (whole (lagged u k l j))
+  unfolding Before
+  input_hold_exact k j l h m = omega (arith, ints, carried_input net q u z k (hold j l) j l ((before_all (suc k)).inputs j l h m))
+
+  row_hold_exact : (k j l : ℕ) → j < s.rows → l < greatest_lag (Row j) s.terms - 1 →
+      SameValue (net_value net q z k (keep j l)) (earlier (λ m. row_value s g u m j) k (suc l))
+  row_hold_exact zero j zero h m =
+      kept_first net q z (keep j 0) (row j)
+      (held_value 0 (row_hold_place s j + 0) (Old (row_place s j)) (row_hold_inside s j 0 h m) (at_row_hold s j 0 h m) (below (row_place s j) (row_inside s j h)))
+  row_hold_exact (suc k) j zero h m =
+      let fit = below (row_place s j) (row_inside s j h) in
+      kept_value net q z k (keep j 0) (row j) (row_value s g u k j) fit
+      (held_value (suc k) (row_hold_place s j + 0) (Old (row_place s j)) (row_hold_inside s j 0 h m) (at_row_hold s j 0 h m) fit) (row_exact k j h)
+  row_hold_exact zero j (suc l) h m =
+      kept_first net q z (keep j (suc l)) (keep j l)
+      (held_value 0 (row_hold_place s j + suc l) (Old (row_hold_place s j + l)) (row_hold_inside s j (suc l) h m) (at_row_hold s j (suc l) h m)
+      (below (row_hold_place s j + l) (row_hold_inside s j l h (omega arith))))
+  row_hold_exact (suc k) j (suc l) h m =
+      let fit = below (row_hold_place s j + l) (row_hold_inside s j l h (omega arith)) in
+      kept_value net q z k (keep j (suc l)) (keep j l) (earlier (λ m. row_value s g u m j) k (suc l)) fit
+      (held_value (suc k) (row_hold_place s j + suc l) (Old (row_hold_place s j + l)) (row_hold_inside s j (suc l) h m) (at_row_hold s j (suc l) h m) fit)
+      (row_hold_exact k j l h (omega arith))
+
+  pub exact_in_net : HasExactValues s g net q at u z
+  exact_in_net = record { rows = row_exact; input_holds = input_hold_exact; row_holds = row_hold_exact }
 
 -- so in a run without perturbation in these rows
 pub exact_in_run : (s : Equations) (net : Net) (at q g : ℕ) (u z perturbations : ℕ → ℕ → ℤ) → EquationsFit s → MeetsEquations s → HoldsRows net at (expanded s) → IsDenominator net q →

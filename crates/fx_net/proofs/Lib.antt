@@ -1,10 +1,13 @@
+pub mod Agreement
 pub mod Apart
+pub mod Blocked
 pub mod Carried
 pub mod Coefficients
 pub mod Empty
 pub mod Exact
 pub mod Filling
 pub mod Numbers
+pub mod OtherRows
 pub mod Positions
 pub mod Running
 pub mod Sources

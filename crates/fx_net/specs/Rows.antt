@@ -63,6 +63,13 @@ pub record AreEmpty (at count : ℕ) (net : Net) : Type 0 where
   pub input : (i j : ℕ) → at ≤ i → i < at + count → net.input i j ≡ zero_fraction
   pub class : (i : ℕ) → at ≤ i → i < at + count → net.class i ≡ 0
 
+-- row i is the same in both nets
+pub record IsSameRow (i : ℕ) (a b : Net) : Type 0 where
+  pub now : (j : ℕ) → a.now i j ≡ b.now i j
+  pub old : (j : ℕ) → a.old i j ≡ b.old i j
+  pub input : (j : ℕ) → a.input i j ≡ b.input i j
+  pub class : a.class i ≡ b.class i
+
 -- the net has these rows from a place on
 pub record HoldsRows (net : Net) (at : ℕ) (rows : List (List NetTerm)) : Type 0 where
   pub inside : at + length rows ≤ net.rows

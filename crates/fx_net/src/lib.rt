@@ -10,7 +10,8 @@ mod net;
 mod tests;
 
 pub use laws::{
-    each_net_has_a_run, equation_rows_have_the_exact_values, rows_stand,
+    denominators_stay, each_net_has_a_run, expanded_rows_agree,
+    expanded_rows_have_the_exact_values, other_rows_stay, rows_stand, runs_are_blocks,
 };
 pub use limits::{GREATEST_CLASS, LARGEST_NET, net_limits_are_these};
 pub use net::{Net, nets_fit, nets_have_a_denominator};
