@@ -80,14 +80,16 @@ one_at_least part (t ∷ ts) = let rest = one_at_least part ts in omega arith
 pub common_is_denominator : CommonDividesEach
 common_is_denominator s =
     let two = greatest two_part s.terms in
-    let ten = greatest ten_part s.terms in
-    (mul-pos two ten (one_at_least two_part s.terms) (one_at_least ten_part s.terms), λ m k d h.
-    let p = each_divides 2 (omega arith) two_part two_exponent two_is s.terms k d h in
-    let q = each_divides 10 (omega arith) ten_part ten_exponent ten_is s.terms k d h in
-    let c = (get_or s.terms k d).coef.den in
-    let multiple_of : (n : ℕ) × (ten * m ≡ ten_part c * n) = (q.0 * m, omega (arith, ap (λ n. n * m) q.1)) in
-    let same : two * (ten * m) ≡ two * ten * m = omega arith in
-    subst (λ n. den_value c * (n / den_value c) ≡ n) same (whole_product c two (ten * m) p multiple_of))
+    let ten = greatest ten_part s.terms in (
+      mul-pos two ten (one_at_least two_part s.terms) (one_at_least ten_part s.terms),
+      λ m k d h.
+          let p = each_divides 2 (omega arith) two_part two_exponent two_is s.terms k d h in
+          let q = each_divides 10 (omega arith) ten_part ten_exponent ten_is s.terms k d h in
+          let c = (get_or s.terms k d).coef.den in
+          let multiple_of : (n : ℕ) × (ten * m ≡ ten_part c * n) = (q.0 * m, omega (arith, ap (λ n. n * m) q.1)) in
+          let same : two * (ten * m) ≡ two * ten * m = omega arith in
+          subst (λ n. den_value c * (n / den_value c) ≡ n) same (whole_product c two (ten * m) p multiple_of),
+    )
   where
     mul-pos : (a b : ℕ) → 1 ≤ a → 1 ≤ b → 0 < a * b
     mul-pos zero b h l = absurd (omega arith)

@@ -12,8 +12,9 @@ mod tests;
 
 pub use fault::EqsFault;
 pub use laws::{
-    cascades_have_no_fault, common_divides_each, exact_values_meet_their_equations, lattices_have_no_fault,
-    state_spaces_have_no_fault, transfer_functions_have_no_fault, what_fits_has_no_fault,
+    cascades_have_no_fault, common_divides_each, exact_values_meet_their_equations,
+    lattices_have_no_fault, state_spaces_have_no_fault, transfer_functions_have_no_fault,
+    what_fits_has_no_fault,
 };
 pub use limits::{
     COEFFICIENTS, EQUATION_TERMS, LONGEST_LAG, NET_ROWS, PORTS, REFLECTIONS, SECTIONS, STATES,

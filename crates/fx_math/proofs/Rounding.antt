@@ -35,7 +35,7 @@ ceil_near_floor low high d n f h k l =
     let c = ceil_parts high d h in
     let g = floor_parts low d h in
     let products : (up (ceil_div high d) + down (floor_div low d)) * d < (up (floor_div low d) + down (ceil_div high d) + f + 2) * d =
-      omega (arith, ints, c, g) in
+    omega (arith, ints, c, g) in
     let quotients = lt_of_mul-lt-mul_right d products in
     omega (arith, ints, quotients)
 
@@ -53,16 +53,18 @@ div_ceil_next a t h = subst (λ x. div_ceil (suc x) t ≡ suc (a / t)) (div-add-
   where
     whole : (q r t : ℕ) → suc r ≡ t → 0 < t → div_ceil (suc (q * t + r)) t ≡ suc q
     whole q r t e h =
-      let same : suc q * t + 0 ≡ suc (q * t + r) = omega arith in
-      let quotient : suc (q * t + r) / t ≡ suc q = quotient_is (suc q) t 0 _ same h in
-      let rest : suc (q * t + r) % t ≡ 0 = rest_is (suc q) t 0 _ same h in
-      omega (arith, quotient, rest)
+        let same : suc q * t + 0 ≡ suc (q * t + r) = omega arith in
+        let quotient : suc (q * t + r) / t ≡ suc q = quotient_is (suc q) t 0 _ same h in
+        let rest : suc (q * t + r) % t ≡ 0 = rest_is (suc q) t 0 _ same h in
+        omega (arith, quotient, rest)
+
     broken : (q r t : ℕ) → suc r < t → 0 < t → div_ceil (suc (q * t + r)) t ≡ suc q
     broken q r t l h =
-      let same : q * t + suc r ≡ suc (q * t + r) = omega arith in
-      let quotient : suc (q * t + r) / t ≡ q = quotient_is q t (suc r) _ same l in
-      let rest : suc (q * t + r) % t ≡ suc r = rest_is q t (suc r) _ same l in
-      omega (arith, quotient, rest)
+        let same : q * t + suc r ≡ suc (q * t + r) = omega arith in
+        let quotient : suc (q * t + r) / t ≡ q = quotient_is q t (suc r) _ same l in
+        let rest : suc (q * t + r) % t ≡ suc r = rest_is q t (suc r) _ same l in
+        omega (arith, quotient, rest)
+
     parts : (q r t : ℕ) → 0 < t → r < t → div_ceil (suc (q * t + r)) t ≡ suc q
     parts q r t h l = elim (cases_lt (suc r) t) [ inl k ↦ broken q r t k h | inr k ↦ whole q r t (omega arith) h ]
 

@@ -81,7 +81,10 @@ impl<const N: usize> Net<N> {
         ensures { net_of self.new ≡ put_each at (row_place layout.now.eqs.now layout.now.eqs.now.rows) (row_holds layout.now.eqs.now layout.now.eqs.now.rows) (net_of self.old) }
     {
         for j in 0..layout.eqs.rows() {
-            let count = layout.eqs.greatest_lag(Source::Row(j as u8)).saturating_sub(1);
+            let count = layout
+                .eqs
+                .greatest_lag(Source::Row(j as u8))
+                .saturating_sub(1);
             self.put_holds(at, Read::Old(layout.first + j), count, layout.rows[j]);
         }
     }
