@@ -4,8 +4,8 @@ use mathlib.Core.Path.{fun_ext}
 use Rattle.std.proofs.lemmas.Bool.{lt-ltb, le-ltb, and_left, and_right, cond-true, cond-false, and_from, eq-eqb, ne_eqb, cases_lt, cases_eq}
 use Rattle.std.proofs.lemmas.List.{get_or_read, get_or-replicate}
 use Rattle.std.proofs.lemmas.Nat.{mul-add-lt, same_from_place}
-use Rattle.fx_nums.specs.Fraction.{Fraction}
-use Rattle.fx_mat.specs.Entries.{zero_fraction, no_entries, put, IsZeroOutside}
+use Rattle.fx_nums.specs.Fraction.{Fraction, zero_fraction}
+use Rattle.fx_mat.specs.Entries.{no_entries, put, IsZeroOutside}
 use Rattle.fx_mat.specs.Matrix.{Matrix, entry_at}
 
 -- the matrix of a list

@@ -1,11 +1,7 @@
 -- Entries of matrices as functions of row and column.
-use Rattle.std.specs.Prelude.{◌≡◌, ℕ, pos, ◌≤◌, ◌==◌, ◌&&◌, cond}
+use Rattle.std.specs.Prelude.{◌≡◌, ℕ, ◌≤◌, ◌==◌, ◌&&◌, cond}
 use Rattle.fx_nums.specs.Fraction.{Fraction}
-use Rattle.fx_nums.specs.declared.fraction.Den.TheVariants.{Ten}
-
--- 0 over 10 ^ 0
-abbrev pub zero_fraction : Fraction
-zero_fraction = record { num = pos 0; den = Ten 0 }
+pub use Rattle.fx_nums.specs.Fraction.{zero_fraction}
 
 -- the entries of a matrix of zeros
 abbrev pub no_entries : ℕ → ℕ → Fraction

@@ -1,7 +1,6 @@
 -- Matrices of fractions.
 use Rattle.std.specs.Prelude.{ℕ, List, ◌+◌, ◌*◌, ◌&&◌, cond, nat_lt, slice_index_or}
-use Rattle.fx_nums.specs.Fraction.{Fraction}
-use Rattle.fx_mat.specs.Entries.{zero_fraction}
+use Rattle.fx_nums.specs.Fraction.{Fraction, zero_fraction}
 
 -- the entries of a matrix, row after row
 pub record Matrix : Type 0 where

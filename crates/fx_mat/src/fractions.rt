@@ -1,5 +1,5 @@
 ghost use Rattle.std.specs.Prelude.{◌≡◌, ℕ, ◌+◌, ◌*◌, ◌<◌, ◌≤◌, IfOk};
-ghost use Rattle.fx_mat.specs.Entries.{zero_fraction, no_entries, put, put_column, transposed, IsZeroOutside};
+ghost use Rattle.fx_mat.specs.Entries.{no_entries, put, put_column, transposed, IsZeroOutside};
 ghost use Rattle.fx_mat.specs.Matrix.{entry_at};
 
 use fx_nums::Frac;

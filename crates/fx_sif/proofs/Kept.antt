@@ -5,9 +5,9 @@ use Rattle.std.proofs.lemmas.Bool.{or_parts, ltb-false, eq-eqb, lt-ltb}
 use Rattle.std.proofs.lemmas.Bool.Decides.{nat_tests}
 use Rattle.std.proofs.lemmas.List.Elements.{All-nil, All-cons}
 use Rattle.fx_math.proofs.Faults.{if_none, or_none}
-use Rattle.fx_nums.specs.Fraction.{Fraction, den_value}
+use Rattle.fx_nums.specs.Fraction.{Fraction, den_value, is_one, is_zero}
 use Rattle.fx_sif.specs.Blocks.{same_place}
-use Rattle.fx_sif.specs.Faults.{is_out, breaks_unit_lower, entry_fault, entries_fault, sif_fault, is_one, is_zero}
+use Rattle.fx_sif.specs.Faults.{is_out, breaks_unit_lower, entry_fault, entries_fault, sif_fault}
 use Rattle.fx_sif.specs.Fits.{KeepsUnitLower, EntryFits, FormFits}
 use Rattle.fx_sif.specs.Form.{rows}
 use Rattle.fx_sif.specs.declared.parts.Block.{Block}

@@ -8,12 +8,12 @@ use Rattle.std.proofs.lemmas.Map.Keys.{IsDistinct-tail}
 use Rattle.std.proofs.lemmas.List.Folds.{list_any-append}
 use Rattle.std.proofs.Math.Nat.{one-le-pow}
 use Rattle.fx_math.proofs.Faults.{none_if, none_or}
-use Rattle.fx_nums.specs.Fraction.{Fraction, den_value}
+use Rattle.fx_nums.specs.Fraction.{Fraction, den_value, is_one, is_zero}
 use Rattle.fx_nums.specs.declared.fraction.Den.{Den}
 use Rattle.fx_nums.specs.declared.fraction.Den.TheVariants.{Two, Ten}
 use Rattle.fx_eqs.proofs.Distinct.{distinct_head}
 use Rattle.fx_sif.specs.Blocks.{height, width, same_place}
-use Rattle.fx_sif.specs.Faults.{is_out, is_one, is_zero, breaks_unit_lower, entry_fault, entries_fault}
+use Rattle.fx_sif.specs.Faults.{is_out, breaks_unit_lower, entry_fault, entries_fault}
 use Rattle.fx_sif.specs.Fits.{IsUnitLower, KeepsUnitLower, EntryFits}
 use Rattle.fx_sif.specs.Form.{rows}
 use Rattle.fx_sif.specs.Laws.{WhatFitsHasNoFault}

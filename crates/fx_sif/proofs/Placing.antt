@@ -6,8 +6,7 @@ use Rattle.std.proofs.lemmas.List.Elements.{All-head, All-tail}
 use Rattle.std.proofs.lemmas.List.{get_or_append_left}
 use Rattle.std.proofs.Math.Seq.{get_or-append_seam}
 use Rattle.fx_math.specs.Sums.{joined}
-use Rattle.fx_nums.specs.Fraction.{Fraction}
-use Rattle.fx_mat.specs.Entries.{zero_fraction}
+use Rattle.fx_nums.specs.Fraction.{Fraction, zero_fraction}
 use Rattle.fx_eqs.specs.Expanded.{NetRead, NetTerm}
 use Rattle.fx_eqs.specs.Expanded.NetRead.{Now, Old, In}
 use Rattle.fx_net.specs.Net.{Net, plain}

@@ -6,8 +6,7 @@ use Rattle.std.proofs.lemmas.Int.{ints}
 use Rattle.std.proofs.lemmas.Bool.{eq-eqb, eqb-true, cond-true, and_from, and_parts, le-leb, lt-ltb, ltb-true, true≢false}
 use Rattle.std.proofs.lemmas.List.Elements.{All-head, All-tail, All-nil, All-cons}
 use Rattle.std.proofs.lemmas.Map.Keys.{IsDistinct-tail}
-use Rattle.fx_nums.specs.Fraction.{Fraction, over, IsWholeOver}
-use Rattle.fx_mat.specs.Entries.{zero_fraction}
+use Rattle.fx_nums.specs.Fraction.{Fraction, over, IsWholeOver, zero_fraction}
 use Rattle.fx_eqs.specs.Expanded.{NetRead, NetTerm}
 use Rattle.fx_eqs.specs.Expanded.NetRead.{Now, Old, In}
 use Rattle.fx_eqs.proofs.Distinct.{distinct_head}

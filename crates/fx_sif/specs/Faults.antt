@@ -1,9 +1,9 @@
 -- The first fault of an implicit form, and the fault that an answer tells.
-use Rattle.std.specs.Prelude.{ℕ, pos, nat_lt, nat_le, int_lt, unsigned_abs, ◌==◌, Bool, false, not, ◌&&◌, ◌||◌, List, [], ◌∷◌, ◌++◌, length, Option, Some, None, Result, Ok, Err}
+use Rattle.std.specs.Prelude.{ℕ, nat_lt, nat_le, ◌==◌, Bool, false, not, ◌&&◌, ◌||◌, List, [], ◌∷◌, ◌++◌, length, Option, Some, None, Result, Ok, Err}
 use Rattle.std.specs.Option.{option_or}
 use Rattle.std.specs.List.{list_any}
 use Rattle.fx_math.specs.Faults.{fault_if}
-use Rattle.fx_nums.specs.Fraction.{Fraction, den_value}
+use Rattle.fx_nums.specs.Fraction.{Fraction, is_one, is_zero}
 use Rattle.fx_sif.specs.Blocks.{height, width, same_place}
 use Rattle.fx_sif.specs.Form.{rows}
 use Rattle.fx_sif.specs.declared.parts.Block.{Block}
@@ -27,13 +27,6 @@ limit_fault s rest =
     fault_if (is_out 4 s.y) (Limit s.y) rest))
 
 -- ---- one entry
-
-abbrev pub is_zero : Fraction → Bool
-is_zero c = unsigned_abs c.num == 0
-
--- above 0, and as great as its denominator
-abbrev pub is_one : Fraction → Bool
-is_one c = int_lt (pos 0) c.num && unsigned_abs c.num == den_value c.den
 
 -- not 1 on the diagonal of J, or not 0 above it
 abbrev pub breaks_unit_lower : Block → ℕ → ℕ → Fraction → Bool

@@ -1,7 +1,6 @@
 -- Filters in implicit form, as contracts see them.
 use Rattle.std.specs.Prelude.{ℕ, ◌+◌, ◌==◌, ◌&&◌, nat_lt, cond, List, [], ◌∷◌}
-use Rattle.fx_nums.specs.Fraction.{Fraction, one_fraction}
-use Rattle.fx_mat.specs.Entries.{zero_fraction}
+use Rattle.fx_nums.specs.Fraction.{Fraction, one_fraction, zero_fraction}
 use Rattle.fx_sif.specs.Blocks.{is_at}
 use Rattle.fx_sif.specs.declared.parts.Block.{Block}
 use Rattle.fx_sif.specs.declared.parts.Block.TheVariants.{J}

@@ -1,11 +1,10 @@
 ghost use Rattle.std.specs.Prelude.{◌≡◌, ◌<◌, ◌^◌, [], length, None};
 ghost use Rattle.std.specs.List.{list_any};
 ghost use Rattle.fx_sif.specs.Blocks.{height, is_at, same_place, width};
-ghost use Rattle.fx_sif.specs.Faults.{breaks_unit_lower, entries_fault, entry_fault, is_one, is_out, is_zero, limit_fault, sif_fault};
+ghost use Rattle.fx_sif.specs.Faults.{breaks_unit_lower, entries_fault, entry_fault, is_out, limit_fault, sif_fault};
 
 use crate::fault::SifFault;
 use crate::parts::{Block, Entry, Sizes};
-use fx_nums::Frac;
 
 // How many rows a block has.
 fn height(sizes: Sizes, block: Block) -> u8
@@ -61,20 +60,6 @@ fn limit_fault(sizes: Sizes) -> Option<SifFault>
     None
 }
 
-// Whether a coefficient is 0.
-fn is_zero(c: Frac) -> bool
-    ensures { result ≡ is_zero c }
-{
-    c.num() == 0
-}
-
-// Whether a coefficient is 1.
-fn is_one(c: Frac) -> bool
-    ensures { result ≡ is_one c }
-{
-    c.num() > 0 && u128::from(c.num().unsigned_abs()) == c.den().value()
-}
-
 // Whether an entry of J is not 1 on the diagonal, or not 0 above it.
 fn breaks_unit_lower(entry: &Entry) -> bool
     ensures { result ≡ breaks_unit_lower entry.now.block entry.now.i entry.now.j entry.now.coef }
@@ -83,9 +68,9 @@ fn breaks_unit_lower(entry: &Entry) -> bool
         return false;
     }
     if entry.i == entry.j {
-        return !is_one(entry.coef);
+        return !entry.coef.is_one();
     }
-    entry.i < entry.j && !is_zero(entry.coef)
+    entry.i < entry.j && !entry.coef.is_zero()
 }
 
 // Whether an earlier entry stands in the same place.
