@@ -5,7 +5,8 @@ use Rattle.std.proofs.lemmas.Bool.Decides.{nat_tests}
 use Rattle.std.proofs.lemmas.Fmt.{decimal_by_steps_wide}
 use Rattle.std.proofs.lemmas.List.Folds.{list_all-append}
 use Rattle.std.specs.List.{list_all}
-use Rattle.fx_text.specs.Tokens.{is_blank, is_letter, is_digit, is_word, begins}
+use Rattle.fx_nums.specs.Signs.{digit_nine, digit_zero, is_blank, is_digit}
+use Rattle.fx_text.specs.Tokens.{is_letter, is_word, begins}
 use Rattle.fx_text.specs.TokenReading.{front_len}
 
 -- ---- the bytes at the front
@@ -84,8 +85,8 @@ pub record IsDigits (ds : List ℕ) : Type 0 where
   pub some : begins is_digit ds ≡ true
   pub all : list_all is_digit ds ≡ true
 
-digit_of : (m : ℕ) → m < 10 → is_digit (48 + m) ≡ true
-digit_of m one = rw (le-leb 48 (48 + m) (omega arith), le-leb (48 + m) 57 (omega arith)) refl
+digit_of : (m : ℕ) → m < 10 → is_digit (digit_zero + m) ≡ true
+digit_of m one = rw (le-leb digit_zero (digit_zero + m) (omega arith), le-leb (digit_zero + m) digit_nine (omega arith)) refl
 
 begins-append : (ds rest : List ℕ) → begins is_digit ds ≡ true → begins is_digit (ds ++ rest) ≡ true
 begins-append [] rest h = absurd cc
@@ -95,10 +96,10 @@ pub decimal_digits : (n : ℕ) → n < 10 ^ 64 → IsDigits (decimal n)
 decimal_digits = decimal_by_steps_wide (λ n ds. IsDigits ds)
     (λ m one. record { some = digit_of m one; all = rw (digit_of m one) refl })
     (λ m ds ten before.
-    let last : is_digit (48 + m % 10) ≡ true = digit_of (m % 10) (omega arith) in
+    let last : is_digit (digit_zero + m % 10) ≡ true = digit_of (m % 10) (omega arith) in
     record {
-      some = begins-append ds ((48 + m % 10) ∷ []) before.some;
-      all = rw (list_all-append is_digit ds ((48 + m % 10) ∷ []), before.all, last) refl;
+      some = begins-append ds ((digit_zero + m % 10) ∷ []) before.some;
+      all = rw (list_all-append is_digit ds ((digit_zero + m % 10) ∷ []), before.all, last) refl;
     })
 
 pub digits_words : (ds : List ℕ) → list_all is_digit ds ≡ true → list_all is_word ds ≡ true

@@ -3,7 +3,8 @@ use Rattle.std.proofs.Common.{◌≡◌, ◌∙◌, sym, Result, Ok, Err, IfOk}
 use Rattle.fx_code.specs.Code.{Code, IsWhole}
 use Rattle.fx_text.specs.declared.fault.CodeFault.{CodeFault}
 use Rattle.fx_text.specs.Laws.{CodeLaw, OneProgram}
-use Rattle.fx_text.specs.TokenReading.{Gives}
+use Rattle.fx_math.specs.Answers.{Gives}
+use Rattle.fx_text.specs.TokenReading.{is_memory}
 use Rattle.fx_text.proofs.ProgramAgain.{code_again}
 use Rattle.fx_text.proofs.ProgramSound.{code_sound}
 
@@ -16,6 +17,6 @@ one_program bytes p q first second =
     cc
 
 -- what is given is whole, where what is read is
-pub whole_given : (given read : Result Code CodeFault) → Gives (λ (p : Code). p) given read → ((p : Code) → read ≡ Ok p → IsWhole p) → IfOk given (λ p. IsWhole p)
+pub whole_given : (given read : Result Code CodeFault) → Gives is_memory (λ (p : Code). p) given read → ((p : Code) → read ≡ Ok p → IsWhole p) → IfOk given (λ p. IsWhole p)
 whole_given (Ok p) read h whole = whole p h
 whole_given (Err fault) read h whole = tt

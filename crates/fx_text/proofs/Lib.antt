@@ -2,10 +2,11 @@ pub mod Bytes
 pub mod CodeLaws
 pub mod Lengths
 pub mod Lines
-pub mod Loops
 pub mod NumberLaws
 pub mod PartLaws
 pub mod ProgramAgain
 pub mod ProgramSound
+pub mod RepeatedSteps
+pub mod TermTurns
 pub mod TokenLaws
 pub mod Written

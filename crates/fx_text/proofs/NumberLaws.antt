@@ -14,10 +14,11 @@ use Rattle.fx_code.specs.declared.fault.LimitOf.{LimitOf}
 use Rattle.fx_nums.specs.Whole.{begins_with_digit, whole_in}
 use Rattle.fx_nums.proofs.WholeLaws.{stands_there, whole_in-decimal}
 use Rattle.fx_text.specs.declared.fault.CodeFault.{CodeFault}
-use Rattle.fx_text.specs.Tokens.{is_letter, is_digit, begins, is_name, Lexeme, name, number, sign, HasLexemes}
+use Rattle.fx_nums.specs.Signs.{digit_zero, is_digit}
+use Rattle.fx_text.specs.Tokens.{is_letter, begins, is_name, Lexeme, name, number, sign, HasLexemes}
 use Rattle.fx_text.specs.Grammar.{next_number}
 use Rattle.fx_math.specs.Faults.{or_fault}
-use Rattle.fx_text.specs.TokenReading.{after_step, front_len, number_at, ranged_at, next_at, writes_digit, index_at, alone, then_alone, name_number, is_some_of, due_at}
+use Rattle.fx_text.specs.TokenReading.{front_len, number_at, ranged_at, next_at, writes_digit, index_at, alone, then_alone, name_number, is_some_of, due_at}
 use Rattle.fx_text.proofs.Bytes.{decimal_digits, digits_words}
 use Rattle.fx_text.proofs.TokenLaws.{Sound, sound_bind, sound_ok, sound_err, sound_if, After, after_bind, Back, token_sound, number_digits, word_back, number_back, expect_sound, expect_again, fixed_again, number_token}
 
@@ -55,7 +56,7 @@ pub whole_again : (limit n : ℕ) → limit ≤ 2 ^ 128 → n < limit → whole_
 whole_again limit n wide below = ap (whole_in limit) (sym (append-nil (decimal n))) ∙ whole_in-decimal limit n [] wide below refl
 
 pub number_again : (text : List ℕ) (at n : ℕ) (ts : List Lexeme) → n < 2 ^ 63 → HasLexemes (drop at text) (number n ∷ ts) → After (number_at text at) (λ e. (n, e)) text ts
-unfolding number_at after_step
+unfolding number_at
 number_again text at n ts below h =
     let digits = decimal_digits n (omega arith) in
     let r = number_token text at n ts digits h in
@@ -104,17 +105,17 @@ unfolding front_len
 one_digit due [] low h one = absurd (omega arith)
 one_digit due (c ∷ d ∷ ds) low h one = absurd (omega arith)
 one_digit due (c ∷ []) low h one = elim (cases_Bool (due == 0)) [
-  | inl none ↦ elim (cases_Bool (c == 48)) [
+  | inl none ↦ elim (cases_Bool (c == digit_zero)) [
     | inl zero_digit ↦
-        let is : c ≡ 48 + due = grind (arith, nat_tests) in
+        let is : c ≡ digit_zero + due = grind (arith, nat_tests) in
         sym (decimal_digit due low ∙ ap (λ (x : ℕ). x ∷ []) (sym is))
     | inr other ↦ absurd (let no = rw (none, other) at h in cc)
   ]
-  | inr some ↦ elim (cases_Bool (c == 48)) [
+  | inr some ↦ elim (cases_Bool (c == digit_zero)) [
     | inl zero_digit ↦ absurd (let no = rw (some, zero_digit) at h in cc)
     | inr other ↦
-        let same : bytes_eq (c ∷ []) ((48 + due) ∷ []) ≡ true = rw (some, other) at h in
-        (bytes_eq-Decides (c ∷ []) ((48 + due) ∷ [])).0 same ∙ sym (decimal_digit due low)
+        let same : bytes_eq (c ∷ []) ((digit_zero + due) ∷ []) ≡ true = rw (some, other) at h in
+        (bytes_eq-Decides (c ∷ []) ((digit_zero + due) ∷ [])).0 same ∙ sym (decimal_digit due low)
   ]
 ]
 
@@ -126,17 +127,17 @@ index_sound due text at low = sound_bind (token_sound text at) (λ t r.
     sound_if (length t.1 == 1) _ _ (λ one. sound_ok t.2 (number_back text at due t r digit (one_digit due t.1 low writes (eqb-true (length t.1) 1 one)))) (λ more. sound_err _))
     (λ other. sound_err _)) (λ other. sound_err _))
 
-digit_writes : (due : ℕ) → due < 10 → writes_digit due ((48 + due) ∷ []) ≡ true
+digit_writes : (due : ℕ) → due < 10 → writes_digit due ((digit_zero + due) ∷ []) ≡ true
 unfolding front_len
 digit_writes zero low = refl
 digit_writes (suc d) low =
-    let other : (48 + suc d == 48) ≡ false = grind (arith, nat_tests) in
-    let same : bytes_eq ((48 + suc d) ∷ []) ((48 + suc d) ∷ []) ≡ true = (bytes_eq-Decides ((48 + suc d) ∷ []) ((48 + suc d) ∷ [])).1 refl in
+    let other : (digit_zero + suc d == digit_zero) ≡ false = grind (arith, nat_tests) in
+    let same : bytes_eq ((digit_zero + suc d) ∷ []) ((digit_zero + suc d) ∷ []) ≡ true = (bytes_eq-Decides ((digit_zero + suc d) ∷ []) ((digit_zero + suc d) ∷ [])).1 refl in
     let some : (suc d == 0) ≡ false = grind (arith, nat_tests) in
     rw (some, other) same
 
 pub index_again : (due : ℕ) (text : List ℕ) (at : ℕ) (ts : List Lexeme) → due < 10 → HasLexemes (drop at text) (number due ∷ ts) → After (index_at due text at) (λ b. b) text ts
-unfolding index_at after_step
+unfolding index_at
 index_again due text at ts low h =
     let digits = decimal_digits due (omega arith) in
     let r = number_token text at due ts digits h in
@@ -197,7 +198,7 @@ due_sound letter n text at is = sound_bind (token_sound text at) (λ t r.
     sound_ok t.2 (word_back text at (letter ∷ decimal n) t (numbered_named letter n is (omega arith)) r numbered.is)) (λ other. sound_err _)) (λ other. sound_err _))
 
 pub due_again : (letter n : ℕ) (text : List ℕ) (at : ℕ) (ts : List Lexeme) → is_letter letter ≡ true → n < 40 → HasLexemes (drop at text) (name (letter ∷ decimal n) ∷ ts) → After (due_at letter n text at) (λ b. b) text ts
-unfolding due_at after_step
+unfolding due_at
 due_again letter n text at ts is below h =
     let r = fixed_again text at (name (letter ∷ decimal n)) ts (numbered_named letter n is (omega arith)) h in
     record { place = r.place; is = rw (r.is, is, name_number_again letter 40 n (lit≤ tt) below, eq-eqb n n refl) refl; has = r.has }

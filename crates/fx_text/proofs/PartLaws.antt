@@ -1,5 +1,5 @@
 -- What is read as a part of a program stands there, and what stands there is read.
-use Rattle.std.proofs.Common.{◌≡◌, ◌≤◌, ◌<◌, ◌-◌, ◌^◌, ◌==◌, ◌||◌, ℕ, min, ℤ, pos, negsuc, ◌*ℤ◌, unsigned_abs, Bool, true, false, List, [], ◌∷◌, codes, decimal, drop, Option, Some, None, option_map, Ok, refl, sym, subst, arith, rules, inl, inr}
+use Rattle.std.proofs.Common.{◌≡◌, ◌≤◌, ◌<◌, ◌-◌, ◌^◌, ◌==◌, ◌||◌, ℕ, min, ℤ, pos, neg_ℤ, unsigned_abs, Bool, true, false, List, [], ◌∷◌, codes, decimal, drop, Option, Some, None, option_map, Ok, refl, sym, subst, arith, rules, inl, inr}
 use Rattle.std.proofs.lemmas.Bool.{and_parts, false_from_ne_true, lt-leb}
 use Rattle.std.proofs.lemmas.Bool.Decides.{nat_tests}
 use Rattle.std.proofs.lemmas.Int.{ints}
@@ -16,18 +16,17 @@ use Rattle.fx_code.specs.declared.term.Read.{Read}
 use Rattle.fx_code.specs.declared.term.Read.TheVariants.{Now, Old, In}
 use Rattle.fx_text.specs.declared.parts.Head.{Head}
 use Rattle.fx_text.specs.declared.term.Place.{Place}
-use Rattle.fx_text.specs.Tokens.{is_letter, is_digit, is_word, begins, is_name, Lexeme, name, number, sign, text_of, HasLexemes}
+use Rattle.fx_math.specs.Words.{is_accumulator}
+use Rattle.fx_nums.specs.Signs.{is_digit, signed}
+use Rattle.fx_text.specs.Tokens.{is_letter, is_word, begins, is_name, Lexeme, name, number, sign, text_of, HasLexemes, row_letter, old_letter, input_letter}
 use Rattle.fx_text.specs.Grammar.{row_name, old_name, input_name, source_name, accumulator_name, next_number, closed, constant_tokens, SpellsCoefficient, factors_tokens}
-use Rattle.fx_text.specs.TokenReading.{after_step, is_nothing, name_number}
-use Rattle.fx_text.specs.Reading.{accumulator_at, head_at, input_at, signed, sign_at, coefficient_at, source_of, is_ahead, checked_source, source_at, term_at, statement_at, constant_at, store_begins_at, store_at, row_name_at, output_at, end_at}
+use Rattle.fx_text.specs.TokenReading.{is_nothing, name_number}
+use Rattle.fx_text.specs.Reading.{accumulator_at, head_at, input_at, sign_at, coefficient_at, source_of, is_ahead, checked_source, source_at, term_at, statement_at, constant_at, store_begins_at, store_at, row_name_at, output_at, end_at}
 use Rattle.fx_text.proofs.Bytes.{IsDigits, decimal_digits}
 use Rattle.fx_text.proofs.TokenLaws.{Sound, sound_bind, sound_ok, sound_err, sound_if, After, after_bind, after_ok, Back, back_then, Reads, token_sound, word_back, expect_sound, expect_again, pair_sound, pair_again, TokenRead, fixed_again, fixed_back, number_token, end_again}
 use Rattle.fx_text.proofs.NumberLaws.{or_fault_sound, number_sound, number_again, next_sound, next_again, index_sound, index_again, name_number_sound, name_number_again, numbered_named, due_sound, due_again}
 
 -- ---- the head
-
-abbrev is_accumulator : ℕ → Bool
-is_accumulator n = n == 16 || (n == 32 || n == 64)
 
 record AccumulatorRead (text : List ℕ) (at : ℕ) (n : ℕ × ℕ) : Type 0 where
   fits : is_accumulator n.0 ≡ true
@@ -114,7 +113,7 @@ pub input_sound : (j : ℕ) (text : List ℕ) (at : ℕ) → Sound (input_at j t
 unfolding input_at
 input_sound j text at =
     sound_bind (pair_sound (name (codes "IN")) (sign (codes "(")) text at refl refl) (λ a a_back.
-    sound_bind (due_sound 117 j text a refl) (λ b b_back.
+    sound_bind (due_sound input_letter j text a refl) (λ b b_back.
     sound_bind (next_sound InputWidth 2 32 text b) (λ w w_read.
     sound_bind (pair_sound (sign (codes ")")) (sign (codes ";")) text w.1 refl refl) (λ d d_back.
     sound_ok (w.0, d) (back_then a_back (back_then b_back (back_then w_read.back d_back)))))))
@@ -124,7 +123,7 @@ unfolding input_at
 input_again j w text at ts j_below low high h =
     let below : w < 2 ^ 63 = omega arith in
     after_bind _ (pair_again (name (codes "IN")) (sign (codes "(")) text at _ refl refl h) (λ a k.
-    after_bind _ (due_again 117 j text a _ refl j_below k) (λ b k2.
+    after_bind _ (due_again input_letter j text a _ refl j_below k) (λ b k2.
     after_bind _ (next_again InputWidth 2 32 text b w _ low high below k2) (λ c k3.
     after_bind _ (pair_again (sign (codes ")")) (sign (codes ";")) text c _ refl refl k3) (λ d k4.
     after_ok (λ x. (w, x)) text ts d k4))))
@@ -161,11 +160,11 @@ no_minus ds digits = false_from_ne_true (bytes_eq ds (codes "-")) (λ same.
     let first : begins is_digit (codes "-") ≡ true = rw is at digits.some in
     cc)
 
-magnitude_minus : (n : ℕ) → unsigned_abs (negsuc 0 *ℤ pos n) ≡ n
+magnitude_minus : (n : ℕ) → unsigned_abs (neg_ℤ (pos n)) ≡ n
 magnitude_minus n = omega (arith, ints)
 
 pub coefficient_again : (text : List ℕ) (at : ℕ) (z : ℤ) (tokens ts : List Lexeme) → unsigned_abs z < 2 ^ 62 → SpellsCoefficient z tokens ts → HasLexemes (drop at text) tokens → After (coefficient_at text at) (λ e. (z, e)) text ts
-unfolding coefficient_at sign_at after_step
+unfolding coefficient_at sign_at
 coefficient_again text at z tokens ts small (inl plain) h =
     let n = plain.0 in
     let below : n < 2 ^ 62 = rw plain.2 at small in
@@ -177,7 +176,7 @@ coefficient_again text at z tokens ts small (inl plain) h =
     record { place = r.place; is = rw (t.is, no_minus (decimal n) digits, r.is, lt-leb (2 ^ 62) n below, same) refl; has = r.has }
 coefficient_again text at z tokens ts small (inr minus) h =
     let n = minus.0 in
-    let same : negsuc 0 *ℤ pos n ≡ z = sym minus.2 in
+    let same : neg_ℤ (pos n) ≡ z = sym minus.2 in
     let below : n < 2 ^ 62 = rw (minus.2, magnitude_minus n) at small in
     let has : HasLexemes (drop at text) (sign (codes "-") ∷ number n ∷ ts) = rw minus.1 at h in
     let t = fixed_again text at (sign (codes "-")) (number n ∷ ts) refl has in
@@ -196,30 +195,30 @@ record IsSource (place : Place) (w : List ℕ) (from : Read) : Type 0 where
   is : w ≡ text_of (source_name from)
   named : is_name (text_of (source_name from)) ≡ true
 
-source_of_sound : (place : Place) (w : List ℕ) (from : Read) → place.rows ≤ 40 → place.inputs ≤ 4 → (o1 o2 o3 : Option ℕ) → name_number 114 place.rows w ≡ o1 → name_number 115 place.rows w ≡ o2 → name_number 117 place.inputs w ≡ o3
+source_of_sound : (place : Place) (w : List ℕ) (from : Read) → place.rows ≤ 40 → place.inputs ≤ 4 → (o1 o2 o3 : Option ℕ) → name_number row_letter place.rows w ≡ o1 → name_number old_letter place.rows w ≡ o2 → name_number input_letter place.inputs w ≡ o3
     → option_or (option_map Now o1) (option_or (option_map Old o2) (option_map In o3)) ≡ Some from → IsSource place w from
 source_of_sound place w from rows inputs (Some i) o2 o3 e1 e2 e3 e =
-    let s = name_number_sound 114 place.rows w i (omega arith) e1 in
+    let s = name_number_sound row_letter place.rows w i (omega arith) e1 in
     let same : Now i ≡ from = cc in
-    subst (IsSource place w) same (record { there = search rules; is = s.is; named = numbered_named 114 i refl (omega (arith, s.below)) })
+    subst (IsSource place w) same (record { there = search rules; is = s.is; named = numbered_named row_letter i refl (omega (arith, s.below)) })
 source_of_sound place w from rows inputs None (Some i) o3 e1 e2 e3 e =
-    let s = name_number_sound 115 place.rows w i (omega arith) e2 in
+    let s = name_number_sound old_letter place.rows w i (omega arith) e2 in
     let same : Old i ≡ from = cc in
-    subst (IsSource place w) same (record { there = s.below; is = s.is; named = numbered_named 115 i refl (omega (arith, s.below)) })
+    subst (IsSource place w) same (record { there = s.below; is = s.is; named = numbered_named old_letter i refl (omega (arith, s.below)) })
 source_of_sound place w from rows inputs None None (Some j) e1 e2 e3 e =
-    let s = name_number_sound 117 place.inputs w j (omega arith) e3 in
+    let s = name_number_sound input_letter place.inputs w j (omega arith) e3 in
     let same : In j ≡ from = cc in
-    subst (IsSource place w) same (record { there = search rules; is = s.is; named = numbered_named 117 j refl (omega (arith, s.below)) })
+    subst (IsSource place w) same (record { there = search rules; is = s.is; named = numbered_named input_letter j refl (omega (arith, s.below)) })
 source_of_sound place w from rows inputs None None None e1 e2 e3 e = absurd cc
 
 source_read : (place : Place) (w : List ℕ) (from : Read) → place.rows ≤ 40 → place.inputs ≤ 4 → source_of place w ≡ Some from → IsSource place w from
 unfolding source_of
-source_read place w from rows inputs e = source_of_sound place w from rows inputs (name_number 114 place.rows w) (name_number 115 place.rows w) (name_number 117 place.inputs w) refl refl refl e
+source_read place w from rows inputs e = source_of_sound place w from rows inputs (name_number row_letter place.rows w) (name_number old_letter place.rows w) (name_number input_letter place.inputs w) refl refl refl e
 
 source_back : (text : List ℕ) (at : ℕ) (from : Read) (x : ℕ × List ℕ × ℕ) → is_name (text_of (source_name from)) ≡ true → Reads text at x → x.1 ≡ text_of (source_name from) → Back text at x.2 (λ ts. source_name from ∷ ts)
-source_back text at (Now i) x named r is = word_back text at (114 ∷ decimal i) x named r is
-source_back text at (Old i) x named r is = word_back text at (115 ∷ decimal i) x named r is
-source_back text at (In j) x named r is = word_back text at (117 ∷ decimal j) x named r is
+source_back text at (Now i) x named r is = word_back text at (row_letter ∷ decimal i) x named r is
+source_back text at (Old i) x named r is = word_back text at (old_letter ∷ decimal i) x named r is
+source_back text at (In j) x named r is = word_back text at (input_letter ∷ decimal j) x named r is
 
 checked_sound : (row : ℕ) (terms : List CodeTerm) (from : Read) (at : ℕ) → Sound (checked_source row terms from at) (λ s. s ≡ (from, at))
 checked_sound row terms from at =
@@ -259,11 +258,11 @@ pub record SourcePasses (place : Place) (earlier : List CodeTerm) (from : Read) 
 source_found : (place : Place) (from : Read) → place.rows ≤ 40 → place.inputs ≤ 4 → IsBelow place from → (source_of place (text_of (source_name from)) ≡ Some from) × (is_name (text_of (source_name from)) ≡ true)
 unfolding source_of
 source_found place (Now i) rows inputs below =
-    (rw (name_number_again 114 place.rows i (omega arith) below) refl, numbered_named 114 i refl (omega arith))
+    (rw (name_number_again row_letter place.rows i (omega arith) below) refl, numbered_named row_letter i refl (omega arith))
 source_found place (Old i) rows inputs below =
-    (rw (other_letter 114 115 place.rows i refl, name_number_again 115 place.rows i (omega arith) below) refl, numbered_named 115 i refl (omega arith))
+    (rw (other_letter row_letter old_letter place.rows i refl, name_number_again old_letter place.rows i (omega arith) below) refl, numbered_named old_letter i refl (omega arith))
 source_found place (In j) rows inputs below =
-    (rw (other_letter 114 117 place.rows j refl, other_letter 115 117 place.rows j refl, name_number_again 117 place.inputs j (omega arith) below) refl, numbered_named 117 j refl (omega arith))
+    (rw (other_letter row_letter input_letter place.rows j refl, other_letter old_letter input_letter place.rows j refl, name_number_again input_letter place.inputs j (omega arith) below) refl, numbered_named input_letter j refl (omega arith))
 
 source_token : (text : List ℕ) (at : ℕ) (from : Read) (ts : List Lexeme) → is_name (text_of (source_name from)) ≡ true → HasLexemes (drop at text) (source_name from ∷ ts) → TokenRead text at (text_of (source_name from)) ts
 source_token text at (Now i) ts named h = fixed_again text at (row_name i) ts named h
@@ -275,7 +274,7 @@ begins_letter [] h = absurd cc
 begins_letter (c ∷ cs) h = (and_parts (is_letter c) (list_all is_word cs) h).0
 
 pub source_again : (place : Place) (earlier : List CodeTerm) (from : Read) (text : List ℕ) (at : ℕ) (ts : List Lexeme) → place.rows ≤ 40 → place.inputs ≤ 4 → SourcePasses place earlier from → HasLexemes (drop at text) (sign (codes ",") ∷ source_name from ∷ ts) → After (source_at place earlier text at) (λ e. (from, e)) text ts
-unfolding source_at after_step
+unfolding source_at
 source_again place earlier from text at ts rows inputs passes h =
     let comma = expect_again (sign (codes ",")) text at (source_name from ∷ ts) refl h in
     let (found, named) = source_found place from rows inputs passes.below in
@@ -336,22 +335,22 @@ pub statement_sound : (row : ℕ) (text : List ℕ) (at : ℕ) → Sound (statem
 unfolding statement_at
 statement_sound row text at = sound_bind (token_sound text at) (λ t r.
     sound_if (bytes_eq t.1 (codes "a")) _ _ (λ same. sound_ok (true, t.2) (fixed_back text at accumulator_name t refl r same)) (λ other.
-    sound_bind (due_sound 114 row text at refl) (λ b b_back. sound_ok (false, b) b_back)))
+    sound_bind (due_sound row_letter row text at refl) (λ b b_back. sound_ok (false, b) b_back)))
 
 pub statement_of_term : (row : ℕ) (text : List ℕ) (at : ℕ) (ts : List Lexeme) → HasLexemes (drop at text) (accumulator_name ∷ ts) → After (statement_at row text at) (λ e. (true, e)) text ts
-unfolding statement_at after_step
+unfolding statement_at
 statement_of_term row text at ts h =
     let t = fixed_again text at accumulator_name ts refl h in
     record { place = t.place; is = rw t.is refl; has = t.has }
 
-no_accumulator : (i : ℕ) → bytes_eq (114 ∷ decimal i) (codes "a") ≡ false
+no_accumulator : (i : ℕ) → bytes_eq (row_letter ∷ decimal i) (codes "a") ≡ false
 no_accumulator i = refl
 
 pub statement_of_store : (row : ℕ) (text : List ℕ) (at : ℕ) (ts : List Lexeme) → row < 40 → HasLexemes (drop at text) (row_name row ∷ ts) → After (statement_at row text at) (λ e. (false, e)) text ts
-unfolding statement_at after_step
+unfolding statement_at
 statement_of_store row text at ts below h =
-    let t = fixed_again text at (row_name row) ts (numbered_named 114 row refl (omega arith)) h in
-    let d = due_again 114 row text at ts refl below h in
+    let t = fixed_again text at (row_name row) ts (numbered_named row_letter row refl (omega arith)) h in
+    let d = due_again row_letter row text at ts refl below h in
     record { place = d.place; is = rw (t.is, d.is) refl; has = d.has }
 
 -- ---- the constant and the store
@@ -427,17 +426,17 @@ row_name_sound rows text at few =
     sound_bind (expect_sound (sign (codes ",")) text at refl) (λ b b_back.
     sound_bind (token_sound text b) (λ t r.
     sound_if (begins is_letter t.1) _ _ (λ letter.
-    sound_bind (or_fault_sound _ (name_number 114 rows t.1)) (λ i e.
-    let s = name_number_sound 114 rows t.1 i (omega arith) e in
+    sound_bind (or_fault_sound _ (name_number row_letter rows t.1)) (λ i e.
+    let s = name_number_sound row_letter rows t.1 i (omega arith) e in
     let below = s.below in
-    sound_ok (i, t.2) (back_then b_back (word_back text b (114 ∷ decimal i) t (numbered_named 114 i refl (omega arith)) r s.is)))) (λ other. sound_err _)))
+    sound_ok (i, t.2) (back_then b_back (word_back text b (row_letter ∷ decimal i) t (numbered_named row_letter i refl (omega arith)) r s.is)))) (λ other. sound_err _)))
 
 row_name_again : (rows i : ℕ) (text : List ℕ) (at : ℕ) (ts : List Lexeme) → rows ≤ 40 → i < rows → HasLexemes (drop at text) (sign (codes ",") ∷ row_name i ∷ ts) → After (row_name_at rows text at) (λ e. (i, e)) text ts
-unfolding row_name_at after_step
+unfolding row_name_at
 row_name_again rows i text at ts few below h =
     let comma = expect_again (sign (codes ",")) text at (row_name i ∷ ts) refl h in
-    let t = fixed_again text comma.place (row_name i) ts (numbered_named 114 i refl (omega arith)) comma.has in
-    record { place = t.place; is = rw (comma.is, t.is, name_number_again 114 rows i (omega arith) below) refl; has = t.has }
+    let t = fixed_again text comma.place (row_name i) ts (numbered_named row_letter i refl (omega arith)) comma.has in
+    record { place = t.place; is = rw (comma.is, t.is, name_number_again row_letter rows i (omega arith) below) refl; has = t.has }
 
 -- `OUT ( J , rI ) ;`
 abbrev pub output_spelled : ℕ → ℕ → List Lexeme → List Lexeme
@@ -471,7 +470,7 @@ end_sound text at =
     sound_if (is_nothing t.1) _ _ (λ none. sound_ok tt (b_back.back [] (r.end none))) (λ more. sound_err _)))
 
 pub end_read : (text : List ℕ) (at : ℕ) → HasLexemes (drop at text) (sign (codes "}") ∷ []) → end_at text at ≡ Ok tt
-unfolding end_at after_step
+unfolding end_at
 end_read text at h =
     let b = expect_again (sign (codes "}")) text at [] refl h in
     let t = end_again text b.place b.has in

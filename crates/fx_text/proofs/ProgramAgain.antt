@@ -21,10 +21,11 @@ use Rattle.fx_code.specs.declared.fault.ProgramFault.{ProgramFault}
 use Rattle.fx_text.specs.declared.fault.CodeFault.{CodeFault}
 use Rattle.fx_text.specs.declared.parts.Head.{Head}
 use Rattle.fx_text.specs.declared.term.Place.{Place}
-use Rattle.fx_text.specs.Tokens.{Lexeme, sign, HasLexemes}
+use Rattle.fx_text.specs.Tokens.{Lexeme, sign, HasLexemes, row_letter, old_letter}
 use Rattle.fx_text.specs.Grammar.{row_name, old_name, SpellsTerms, SpellsRow, SpellsRows, inputs_tokens, outputs_tokens, keeps_tokens, last_tokens, Spells, first_line}
-use Rattle.fx_text.specs.TokenReading.{after_step, repeated, front_fault, first_line_at}
+use Rattle.fx_text.specs.TokenReading.{repeated, front_fault, first_line_at}
 use Rattle.fx_text.specs.Reading.{head_at, input_at, is_ahead, term_at, statement_at, constant_at, store_at, output_at, end_at, input_more, terms_at, place_of, unless_fault, row_more, output_more, keep_more, body_at, code_in}
+use Rattle.fx_text.proofs.TermTurns.{terms_law}
 use Rattle.fx_text.proofs.TokenLaws.{After, after_bind, after_ok, expect_again}
 use Rattle.fx_text.proofs.NumberLaws.{due_again}
 use Rattle.fx_text.proofs.PartLaws.{HeadFits, head_again, input_again, IsBelow, SourcePasses, TermPasses, term_again, statement_of_term, statement_of_store, constant_again, stored, store_again, output_again, end_read}
@@ -33,13 +34,12 @@ use Rattle.fx_code.proofs.Fitting.{ReadOnce, distinct_once, start_passes, row_pa
 -- ---- steps
 
 one_more : {S : Type 0} (step : S → Result S CodeFault) (k : ℕ) (s t u : S) → step s ≡ Ok t → repeated k step t ≡ Ok u → repeated (suc k) step s ≡ Ok u
-unfolding after_step
 one_more step k s t u first rest = rw first rest
 
 -- ---- inputs
 
 input_stepped : (text ws : List ℕ) (w at e : ℕ) → input_at (length ws) text at ≡ Ok (w, e) → input_more text (ws, at) ≡ Ok (ws ++ w ∷ [], e)
-unfolding input_more after_step
+unfolding input_more
 input_stepped text ws w at e is = rw is refl
 
 inputs_again : (ws more : List ℕ) (text : List ℕ) (at : ℕ) (ts : List Lexeme) → length ws + length more ≤ 40 → All WidthFits more → HasLexemes (drop at text) (inputs_tokens (length ws) more ts) → After (repeated (length more) (input_more text) (ws, at)) (λ e. (ws ++ more, e)) text ts
@@ -61,29 +61,26 @@ TermsPass place earlier [] = Unit {0}
 TermsPass place earlier (t ∷ ts) = TermPasses place earlier t × TermsPass place (earlier ++ t ∷ []) ts
 
 -- what follows the beginning of a term
-term_stepped : (k : ℕ) (place : Place) (earlier : List CodeTerm) (t : CodeTerm) (text : List ℕ) (at b e : ℕ) (made : List CodeTerm × ℕ) → statement_at place.row text at ≡ Ok (true, b) → term_at place earlier text b ≡ Ok (t, e) → terms_at k place (earlier ++ t ∷ []) text e ≡ Ok made
-    → terms_at (suc k) place earlier text at ≡ Ok made
-unfolding terms_at after_step
-term_stepped k place earlier t text at b e made statement term rest = rw (statement, term) rest
+term_stepped : (place : Place) (earlier : List CodeTerm) (t : CodeTerm) (text : List ℕ) (at b e : ℕ) (made : List CodeTerm × ℕ) → statement_at place.row text at ≡ Ok (true, b) → term_at place earlier text b ≡ Ok (t, e) → terms_at place (earlier ++ t ∷ []) text e ≡ Ok made
+    → terms_at place earlier text at ≡ Ok made
+term_stepped place earlier t text at b e made statement term rest = terms_law place earlier text at ∙ rw (statement, term) rest
 
-store_stepped : (k : ℕ) (place : Place) (earlier : List CodeTerm) (text : List ℕ) (at b : ℕ) → statement_at place.row text at ≡ Ok (false, b) → terms_at (suc k) place earlier text at ≡ Ok (earlier, b)
-unfolding terms_at after_step
-store_stepped k place earlier text at b statement = rw statement refl
+store_stepped : (place : Place) (earlier : List CodeTerm) (text : List ℕ) (at b : ℕ) → statement_at place.row text at ≡ Ok (false, b) → terms_at place earlier text at ≡ Ok (earlier, b)
+store_stepped place earlier text at b statement = terms_law place earlier text at ∙ rw statement refl
 
-terms_again : (k : ℕ) (place : Place) (earlier more : List CodeTerm) (text : List ℕ) (at : ℕ) (tokens ts : List Lexeme) → place.row < 40 → place.rows ≤ 40 → place.inputs ≤ 4 → length more < k → TermsPass place earlier more → SpellsTerms more tokens (row_name place.row ∷ ts)
-    → HasLexemes (drop at text) tokens → After (terms_at k place earlier text at) (λ e. (earlier ++ more, e)) text ts
-terms_again zero place earlier more text at tokens ts row rows inputs less passes spells h = absurd (omega arith)
-terms_again (suc k) place earlier [] text at tokens ts row rows inputs less passes spells h =
+terms_again : (place : Place) (earlier more : List CodeTerm) (text : List ℕ) (at : ℕ) (tokens ts : List Lexeme) → place.row < 40 → place.rows ≤ 40 → place.inputs ≤ 4 → TermsPass place earlier more → SpellsTerms more tokens (row_name place.row ∷ ts)
+    → HasLexemes (drop at text) tokens → After (terms_at place earlier text at) (λ e. (earlier ++ more, e)) text ts
+terms_again place earlier [] text at tokens ts row rows inputs passes spells h =
     let has = rw spells at h in
     let s = statement_of_store place.row text at ts row has in
-    record { place = s.place; is = store_stepped k place earlier text at s.place s.is ∙ ap (λ (x : List CodeTerm). Ok (x, s.place)) (sym (append-nil earlier)); has = s.has }
-terms_again (suc k) place earlier (t ∷ more) text at tokens ts row rows inputs less passes spells h =
+    record { place = s.place; is = store_stepped place earlier text at s.place s.is ∙ ap (λ (x : List CodeTerm). Ok (x, s.place)) (sym (append-nil earlier)); has = s.has }
+terms_again place earlier (t ∷ more) text at tokens ts row rows inputs passes spells h =
     let (mid, term, rest_spells) = spells in
     let has = rw term.begins at h in
     let s = statement_of_term place.row text at _ has in
     let one = term_again place earlier t text s.place term.factors mid rows inputs passes.0 term.coefficient s.has in
-    let rest = terms_again k place (earlier ++ t ∷ []) more text one.place mid ts row rows inputs (omega arith) passes.1 rest_spells one.has in
-    record { place = rest.place; is = term_stepped k place earlier t text at s.place one.place _ s.is one.is rest.is ∙ ap (λ (x : List CodeTerm). Ok (x, rest.place)) (append_assoc earlier (t ∷ []) more); has = rest.has }
+    let rest = terms_again place (earlier ++ t ∷ []) more text one.place mid ts row rows inputs passes.1 rest_spells one.has in
+    record { place = rest.place; is = term_stepped place earlier t text at s.place one.place _ s.is one.is rest.is ∙ ap (λ (x : List CodeTerm). Ok (x, rest.place)) (append_assoc earlier (t ∷ []) more); has = rest.has }
 
 source_may : (row rows inputs : ℕ) (earlier : List CodeTerm) (t : CodeTerm) → row < rows → SourceFits row inputs t.from → OldIsThere rows t.from → list_any (λ (e : CodeTerm). same_source e.from t.from) earlier ≡ false → SourcePasses (record { row = row; rows = rows; inputs = inputs }) earlier t.from
 source_may row rows inputs earlier t below source there once = record { near = near t.from source; once = once; below = within t.from source there }
@@ -133,9 +130,9 @@ constant_small (suc r) h =
 unless_none : {A : Type 0} (o : Option ProgramFault) (x : A) → o ≡ None → unless_fault o x ≡ Ok x
 unless_none o x e = rw e refl
 
-row_stepped : (rows : ℕ) (p : Code) (row : Row) (text : List ℕ) (at a b c : ℕ) → constant_at text at ≡ Ok (half_place row.shift, a) → terms_at 625 (place_of rows p) [] text a ≡ Ok (row.terms, b) → store_at p.accumulator text b ≡ Ok (row.shift, row.width, c) → row_fault p row ≡ None
+row_stepped : (rows : ℕ) (p : Code) (row : Row) (text : List ℕ) (at a b c : ℕ) → constant_at text at ≡ Ok (half_place row.shift, a) → terms_at (place_of rows p) [] text a ≡ Ok (row.terms, b) → store_at p.accumulator text b ≡ Ok (row.shift, row.width, c) → row_fault p row ≡ None
     → row_more rows text (p, at) ≡ Ok (row_on p row, c)
-unfolding row_more after_step
+unfolding row_more
 row_stepped rows p row text at a b c constant terms store passes =
     let same : (half_place row.shift == half_place row.shift) ≡ true = eq-eqb (half_place row.shift) (half_place row.shift) refl in
     rw (constant, terms, store, unless_none (row_fault p row) (row_on p row) passes, same) refl
@@ -145,7 +142,7 @@ row_again rows p row text at tokens ts may spells h =
     let has = rw spells.constant at h in
     let constant = constant_again text at (half_place row.shift) spells.terms (constant_small row.shift may.fits.shift_high) has in
     let pass = terms_may (length p.rows) rows (length p.inputs) row.shift [] row.terms may.below may.fits.terms may.reads.sources may.there (distinct_once row.terms may.reads.once) in
-    let terms = terms_again 625 (place_of rows p) [] row.terms text constant.place spells.terms (stored row.shift row.width ts) (omega (arith, may.below, may.rows_high)) may.rows_high may.inputs_high (omega (arith, may.terms)) pass spells.each constant.has in
+    let terms = terms_again (place_of rows p) [] row.terms text constant.place spells.terms (stored row.shift row.width ts) (omega (arith, may.below, may.rows_high)) may.rows_high may.inputs_high pass spells.each constant.has in
     let store = store_again p.accumulator row.shift row.width text terms.place ts (omega (arith, may.fits.shift_high, may.fits.shift_kept)) may.fits.width.low (omega (arith, may.fits.width.high, may.fits.width_kept)) terms.has in
     let passes = row_passes p row (omega (arith, may.below, may.rows_high)) may.wide may.fits may.reads may.terms in
     record { place = store.place; is = row_stepped rows p row text at constant.place terms.place store.place constant.is terms.is store.is passes; has = store.has }
@@ -203,7 +200,7 @@ abbrev outputs_on : Code → List ℕ → Code
 outputs_on p outputs = record p { outputs = p.outputs ++ outputs }
 
 output_stepped : (p : Code) (i : ℕ) (text : List ℕ) (at e : ℕ) → output_at (length p.outputs) (length p.rows) text at ≡ Ok (i, e) → output_fault p i ≡ None → output_more text (p, at) ≡ Ok (outputs_on p (i ∷ []), e)
-unfolding output_more after_step
+unfolding output_more
 output_stepped p i text at e is passes = rw (is, unless_none (output_fault p i) (outputs_on p (i ∷ [])) passes) refl
 
 outputs_again : (p : Code) (more : List ℕ) (text : List ℕ) (at : ℕ) (ts : List Lexeme) → length p.outputs + length more ≤ 4 → length p.rows ≤ 40 → All (λ i. i < length p.rows) more → HasLexemes (drop at text) (outputs_tokens (length p.outputs) more ts)
@@ -223,9 +220,9 @@ outputs_again p (i ∷ more) text at ts few rows below h =
 keep_again : (i : ℕ) (text : List ℕ) (at : ℕ) (ts : List Lexeme) → i < 40 → HasLexemes (drop at text) (old_name i ∷ sign (codes "=") ∷ row_name i ∷ sign (codes ";") ∷ ts) → After (keep_more text (i, at)) (λ e. (i + 1, e)) text ts
 unfolding keep_more
 keep_again i text at ts below h =
-    after_bind _ (due_again 115 i text at _ refl below h) (λ a k.
+    after_bind _ (due_again old_letter i text at _ refl below h) (λ a k.
     after_bind _ (expect_again (sign (codes "=")) text a _ refl k) (λ b k2.
-    after_bind _ (due_again 114 i text b _ refl below k2) (λ c k3.
+    after_bind _ (due_again row_letter i text b _ refl below k2) (λ c k3.
     after_bind _ (expect_again (sign (codes ";")) text c _ refl k3) (λ d k4.
     after_ok (λ x. (i + 1, x)) text ts d k4))))
 
@@ -264,7 +261,7 @@ head_fits p fits whole = record {
 body_stepped : (p : Code) (text : List ℕ) (at a b c d : ℕ) → repeated (length p.inputs) (input_more text) ([], at) ≡ Ok (p.inputs, a) → start_fault p.accumulator p.inputs ≡ None
     → repeated (length p.rows) (row_more (length p.rows) text) (rows_only p [], a) ≡ Ok (rows_only p p.rows, b) → repeated (length p.outputs) (output_more text) (rows_only p p.rows, b) ≡ Ok (p, c)
     → repeated (length p.rows) (keep_more text) (0, c) ≡ Ok (0 + length p.rows, d) → end_at text d ≡ Ok tt → body_at (head_of p) text at ≡ Ok p
-unfolding body_at after_step
+unfolding body_at
 body_stepped p text at a b c d inputs begun rows outputs kept last =
     rw (inputs, unless_none (start_fault p.accumulator p.inputs) (rows_only p []) begun, rows, outputs, kept, last) refl
 
@@ -283,7 +280,7 @@ first_line_again text =
     ap (λ (b : Bool). cond b (Ok 19) (Err (front_fault (first_line ++ text)))) test
 
 code_stepped : (bytes : List ℕ) (p : Code) (e : ℕ) → first_line_at bytes ≡ Ok 19 → head_at bytes 19 ≡ Ok (head_of p, e) → body_at (head_of p) bytes e ≡ Ok p → code_in bytes ≡ Ok p
-unfolding code_in after_step
+unfolding code_in
 code_stepped bytes p e first head body = rw (first, head, body) refl
 
 pub code_again : (bytes : List ℕ) (p : Code) → Spells bytes p → code_in bytes ≡ Ok p

@@ -14,10 +14,10 @@ use Rattle.fx_code.specs.declared.term.CodeTerm.{CodeTerm}
 use Rattle.fx_code.specs.declared.fault.ProgramFault.{ProgramFault}
 use Rattle.fx_text.specs.declared.parts.Head.{Head}
 use Rattle.fx_text.specs.declared.term.Place.{Place}
-use Rattle.fx_text.specs.Tokens.{Lexeme, name, sign, HasLexemes}
+use Rattle.fx_text.specs.Tokens.{Lexeme, name, sign, HasLexemes, row_letter, old_letter}
 use Rattle.fx_text.specs.Grammar.{row_name, old_name, accumulator_name, constant_tokens, SpellsTerms, SpellsRow, SpellsRows, inputs_tokens, outputs_tokens, keeps_tokens, last_tokens, Spells, first_line}
 use Rattle.fx_text.specs.TokenReading.{repeated, first_line_at}
-use Rattle.fx_text.specs.Reading.{input_more, terms_at, place_of, unless_fault, checked_constant, row_more, output_more, keep_more, body_at, code_in}
+use Rattle.fx_text.specs.Reading.{input_more, terms_within, terms_at, place_of, unless_fault, checked_constant, row_more, output_more, keep_more, body_at, code_in}
 use Rattle.fx_text.proofs.TokenLaws.{Sound, sound_bind, sound_ok, sound_err, sound_if, Back, back_then, expect_sound}
 use Rattle.fx_text.proofs.NumberLaws.{due_sound}
 use Rattle.fx_text.proofs.PartLaws.{HeadFits, HeadRead, head_spelled, head_sound, input_spelled, input_sound, term_sound, statement_sound, constant_sound, stored, store_sound, output_spelled, output_sound, end_sound}
@@ -58,8 +58,8 @@ record TermsRead (place : Place) (terms : List CodeTerm) (text : List ℕ) (at :
   there : All (λ (t : CodeTerm). OldIsThere place.rows t.from) more
   spelled : (ts : List Lexeme) → HasLexemes (drop r.1 text) ts → (tokens : List Lexeme) × SpellsTerms more tokens (row_name place.row ∷ ts) × HasLexemes (drop at text) tokens
 
-terms_sound : (k : ℕ) (place : Place) (terms : List CodeTerm) (text : List ℕ) (at : ℕ) → place.rows ≤ 40 → place.inputs ≤ 4 → Sound (terms_at k place terms text at) (TermsRead place terms text at)
-unfolding terms_at
+terms_sound : (k : ℕ) (place : Place) (terms : List CodeTerm) (text : List ℕ) (at : ℕ) → place.rows ≤ 40 → place.inputs ≤ 4 → Sound (terms_within k place terms text at) (TermsRead place terms text at)
+unfolding terms_within
 terms_sound zero place terms text at rows inputs = sound_err _
 terms_sound (suc k) place terms text at rows inputs = sound_bind (statement_sound place.row text at) (λ s s_back.
     sound_if s.0 _ _ (λ is_term. sound_bind (term_sound place terms text s.1 rows inputs) (λ t t_read. record {
@@ -108,7 +108,7 @@ row_sound : (rows : ℕ) (p : Code) (text : List ℕ) (at : ℕ) → rows ≤ 40
 unfolding row_more
 row_sound rows p text at few inputs =
     sound_bind (constant_sound text at) (λ c c_read.
-    sound_bind (terms_sound 625 (place_of rows p) [] text c.1 few inputs) (λ t t_read.
+    sound_bind (terms_sound (suc (length text)) (place_of rows p) [] text c.1 few inputs) (λ t t_read.
     sound_bind (store_sound p.accumulator text t.1) (λ s s_back.
     sound_bind (unless_sound (row_fault p (record { width = s.1; shift = s.0; terms = t.0 })) (row_on p (record { width = s.1; shift = s.0; terms = t.0 }))) (λ q added.
     sound_bind (constant_checked (length p.rows) c.0 s.0) (λ u same.
@@ -229,9 +229,9 @@ outputs_sound (suc k) p text at few rows = sound_bind (output_more_sound p text 
 keep_more_sound : (i : ℕ) (text : List ℕ) (at : ℕ) → Sound (keep_more text (i, at)) (λ q. (q.0 ≡ i + 1) × Back text at q.1 (λ ts. old_name i ∷ sign (codes "=") ∷ row_name i ∷ sign (codes ";") ∷ ts))
 unfolding keep_more
 keep_more_sound i text at =
-    sound_bind (due_sound 115 i text at refl) (λ a a_back.
+    sound_bind (due_sound old_letter i text at refl) (λ a a_back.
     sound_bind (expect_sound (sign (codes "=")) text a refl) (λ b b_back.
-    sound_bind (due_sound 114 i text b refl) (λ c c_back.
+    sound_bind (due_sound row_letter i text b refl) (λ c c_back.
     sound_bind (expect_sound (sign (codes ";")) text c refl) (λ d d_back.
     sound_ok (i + 1, d) (refl, back_then a_back (back_then b_back (back_then c_back d_back)))))))
 

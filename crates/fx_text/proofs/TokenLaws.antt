@@ -7,8 +7,10 @@ use Rattle.std.proofs.lemmas.Slice.Eq.{bytes_eq-Decides}
 use Rattle.std.specs.List.{list_all}
 use Rattle.std.specs.Str.{bytes_eq}
 use Rattle.fx_text.specs.declared.fault.CodeFault.{CodeFault}
-use Rattle.fx_text.specs.Tokens.{is_blank, is_letter, is_digit, is_word, begins, is_name, is_sign, Lexeme, name, number, sign, text_of, FirstLexeme, HasLexemes}
-use Rattle.fx_text.specs.TokenReading.{◌>>=◌, after_step, front_len, is_mark, is_equals, token_len, token_at, is_nothing, expect_at, pair_at}
+use Rattle.fx_nums.specs.Signs.{is_blank, is_digit, plus_sign}
+use Rattle.fx_text.specs.Tokens.{is_letter, is_word, begins, is_name, is_sign, Lexeme, name, number, sign, text_of, FirstLexeme, HasLexemes}
+use Rattle.fx_math.specs.Faults.{◌>>=◌}
+use Rattle.fx_text.specs.TokenReading.{front_len, is_mark, is_equals, token_len, token_at, is_nothing, expect_at, pair_at}
 use Rattle.fx_text.proofs.Bytes.{front_all, front_len_le, front_again, front_exact, front_passes, letter_word, letter_not_blank, digit_not_letter, digit_not_blank, IsDigits}
 
 -- ---- steps, read and stood
@@ -18,7 +20,6 @@ pub record Sound {B : Type 0} (read : Result B CodeFault) (P : B → Type 0) : T
   pub holds : (y : B) → read ≡ Ok y → P y
 
 pub sound_bind : {A B : Type 0} {read : Result A CodeFault} {next : A → Result B CodeFault} {P : A → Type 0} {Q : B → Type 0} → Sound read P → ((x : A) → P x → Sound (next x) Q) → Sound (read >>= next) Q
-unfolding after_step
 sound_bind {A} {B} {read} {next} {P} {Q} first second = record { holds = λ y e. cases read first.holds y e }
   where
     cases : (r : Result A CodeFault) → ((x : A) → r ≡ Ok x → P x) → (y : B) → (r >>= next) ≡ Ok y → Q y
@@ -41,7 +42,6 @@ pub record After {B : Type 0} (read : Result B CodeFault) (made : ℕ → B) (te
   pub has : HasLexemes (drop place text) ts
 
 pub after_bind : {A B : Type 0} {read : Result A CodeFault} (next : A → Result B CodeFault) {made : ℕ → A} {last : ℕ → B} {text : List ℕ} {us ts : List Lexeme} → After read made text us → ((e : ℕ) → HasLexemes (drop e text) us → After (next (made e)) last text ts) → After (read >>= next) last text ts
-unfolding after_step
 after_bind next first second =
     let more = second first.place first.has in
     record { place = more.place; is = rw first.is more.is; has = more.has }
@@ -69,7 +69,7 @@ token_len_le (c ∷ cs) =
     cond_both (is_letter c) _ _ (λ n. n ≤ length (c ∷ cs)) (λ h. front_len_le is_word (c ∷ cs)) (λ h.
     cond_both (is_digit c) _ _ (λ n. n ≤ length (c ∷ cs)) (λ h. front_len_le is_digit (c ∷ cs)) (λ h.
     cond_both (is_mark c) _ _ (λ n. n ≤ length (c ∷ cs)) (λ h. omega arith) (λ h.
-    cond_both (c == 43 && begins is_equals cs) _ _ (λ n. n ≤ length (c ∷ cs)) (λ h. two_le cs (and_parts (c == 43) (begins is_equals cs) h).1) (λ h. omega arith))))
+    cond_both (c == plus_sign && begins is_equals cs) _ _ (λ n. n ≤ length (c ∷ cs)) (λ h. two_le cs (and_parts (c == plus_sign) (begins is_equals cs) h).1) (λ h. omega arith))))
 
 pub record Reads (text : List ℕ) (at : ℕ) (t : ℕ × List ℕ × ℕ) : Type 0 where
   pub blanks : List ℕ
@@ -278,7 +278,7 @@ unfolding HasLexemes
 number_token text at n ts digits h = first_read text at (number n) h.0 ts h.1 (digits_first (decimal n) h.0 digits h.1.ends) h.2
 
 pub expect_again : (t : Lexeme) (text : List ℕ) (at : ℕ) (ts : List Lexeme) → IsFixed t → HasLexemes (drop at text) (t ∷ ts) → After (expect_at (text_of t) text at) (λ b. b) text ts
-unfolding expect_at after_step
+unfolding expect_at
 expect_again t text at ts fixed h =
     let r = fixed_again text at t ts fixed h in
     let same : bytes_eq (text_of t) (text_of t) ≡ true = (bytes_eq-Decides (text_of t) (text_of t)).1 refl in

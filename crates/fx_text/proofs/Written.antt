@@ -1,5 +1,5 @@
 -- The text that is written for a program spells it.
-use Rattle.std.proofs.Common.{◌≡◌, ◌≤◌, ◌<◌, ◌+◌, ◌^◌, ℕ, zero, suc, ℤ, pos, negsuc, ◌*ℤ◌, true, false, List, [], ◌∷◌, ◌++◌, codes, decimal, length, All, refl, sym, ap, subst, append_assoc, arith, rules, inl, inr}
+use Rattle.std.proofs.Common.{◌≡◌, ◌≤◌, ◌<◌, ◌+◌, ◌^◌, ℕ, zero, suc, ℤ, pos, negsuc, true, false, List, [], ◌∷◌, ◌++◌, codes, decimal, length, All, refl, sym, ap, subst, append_assoc, arith, rules, inl, inr}
 use Rattle.std.proofs.lemmas.Int.{ints}
 use Rattle.std.proofs.lemmas.List.Elements.{All-head, All-tail, All-weaker, All-from_get_or}
 use Rattle.std.specs.Fmt.{signed_decimal}
@@ -8,7 +8,8 @@ use Rattle.fx_code.specs.Fits.{SourceFits, CodeFits}
 use Rattle.fx_code.specs.declared.term.CodeTerm.{CodeTerm}
 use Rattle.fx_code.specs.declared.term.Read.{Read}
 use Rattle.fx_code.specs.declared.term.Read.TheVariants.{Now, Old, In}
-use Rattle.fx_text.specs.Tokens.{is_blank, is_digit, is_word, begins, is_name, is_sign, Lexeme, name, number, sign, HasLexemes}
+use Rattle.fx_nums.specs.Signs.{is_blank, is_digit, line_feed, space}
+use Rattle.fx_text.specs.Tokens.{is_word, begins, is_name, is_sign, Lexeme, name, number, sign, HasLexemes, row_letter, old_letter, input_letter}
 use Rattle.fx_text.specs.Grammar.{input_name, source_name, accumulator_name, next_number, closed, head_tokens, inputs_tokens, constant_tokens, SpellsCoefficient, factors_tokens, SpellsTerm, SpellsTerms, store_tokens, SpellsRow, SpellsRows, outputs_tokens, keeps_tokens, last_tokens, Spells}
 use Rattle.fx_text.specs.Writing.{head_line, input_line, input_lines, constant_line, source_text, term_line, term_lines, store_line, row_lines, rows_lines, output_line, output_lines, keep_line, keep_lines, code_text}
 use Rattle.fx_text.proofs.NumberLaws.{numbered_named}
@@ -22,11 +23,11 @@ blank_before c text (t ∷ ts) blank h =
     let f = h.1 in
     (h.0, record { blanks = c ∷ f.blanks; are_blank = rw blank f.are_blank; valid = f.valid; stands = ap (λ (x : List ℕ). c ∷ x) f.stands; ends = f.ends }, h.2)
 
-space_before : (text : List ℕ) (ts : List Lexeme) → HasLexemes text ts → HasLexemes (32 ∷ text) ts
-space_before text ts h = blank_before 32 text ts refl h
+space_before : (text : List ℕ) (ts : List Lexeme) → HasLexemes text ts → HasLexemes (space ∷ text) ts
+space_before text ts h = blank_before space text ts refl h
 
-line_before : (text : List ℕ) (ts : List Lexeme) → HasLexemes text ts → HasLexemes (10 ∷ text) ts
-line_before text ts h = blank_before 10 text ts refl h
+line_before : (text : List ℕ) (ts : List Lexeme) → HasLexemes text ts → HasLexemes (line_feed ∷ text) ts
+line_before text ts h = blank_before line_feed text ts refl h
 
 name_before : (w text : List ℕ) (ts : List Lexeme) → is_name w ≡ true → begins is_word text ≡ false → HasLexemes text ts → HasLexemes (w ++ text) (name w ∷ ts)
 unfolding HasLexemes
@@ -79,7 +80,7 @@ input_written : (j w : ℕ) (text : List ℕ) (ts : List Lexeme) → j < 10 ^ 64
 input_written j w text ts below h =
     along _ _ _ (five (codes "  IN(u") (decimal j) (codes ", ") (decimal w) (codes ");\n") text) (
     space_before _ _ (space_before _ _ (name_before (codes "IN") _ _ refl refl (sign_before (codes "(") _ _ refl (
-    name_before (117 ∷ decimal j) _ _ (numbered_named 117 j refl below) refl (next_before w _ _ refl (closed_before text ts h)))))))
+    name_before (input_letter ∷ decimal j) _ _ (numbered_named input_letter j refl below) refl (next_before w _ _ refl (closed_before text ts h)))))))
 
 inputs_written : (j : ℕ) (ws text : List ℕ) (ts : List Lexeme) → j + length ws < 10 ^ 64 → HasLexemes text ts → HasLexemes (input_lines j ws ++ text) (inputs_tokens j ws ts)
 inputs_written j [] text ts below h = h
@@ -98,14 +99,11 @@ record CoefficientWritten (z : ℤ) (text : List ℕ) (ts : List Lexeme) : Type 
   spells : SpellsCoefficient z tokens ts
   has : HasLexemes (signed_decimal z ++ text) tokens
 
-minus_is : (n : ℕ) → negsuc n ≡ negsuc 0 *ℤ pos (suc n)
-minus_is n = omega (arith, ints)
-
 coefficient_written : (z : ℤ) (text : List ℕ) (ts : List Lexeme) → begins is_digit text ≡ false → HasLexemes text ts → CoefficientWritten z text ts
 coefficient_written (pos n) text ts stop h = record { tokens = number n ∷ ts; spells = inl (n, refl, refl); has = number_before n text ts stop h }
 coefficient_written (negsuc n) text ts stop h = record {
   tokens = sign (codes "-") ∷ number (suc n) ∷ ts;
-  spells = inr (suc n, refl, minus_is n);
+  spells = inr (suc n, refl, refl);
   has = sign_before (codes "-") _ _ refl (number_before (suc n) text ts stop h);
 }
 
@@ -116,9 +114,9 @@ number_of (Old i) = i
 number_of (In j) = j
 
 source_written : (from : Read) (text : List ℕ) (ts : List Lexeme) → number_of from < 10 ^ 64 → begins is_word text ≡ false → HasLexemes text ts → HasLexemes (source_text from ++ text) (source_name from ∷ ts)
-source_written (Now i) text ts below stop h = name_before (114 ∷ decimal i) text ts (numbered_named 114 i refl below) stop h
-source_written (Old i) text ts below stop h = name_before (115 ∷ decimal i) text ts (numbered_named 115 i refl below) stop h
-source_written (In j) text ts below stop h = name_before (117 ∷ decimal j) text ts (numbered_named 117 j refl below) stop h
+source_written (Now i) text ts below stop h = name_before (row_letter ∷ decimal i) text ts (numbered_named row_letter i refl below) stop h
+source_written (Old i) text ts below stop h = name_before (old_letter ∷ decimal i) text ts (numbered_named old_letter i refl below) stop h
+source_written (In j) text ts below stop h = name_before (input_letter ∷ decimal j) text ts (numbered_named input_letter j refl below) stop h
 
 factors_written : (from : Read) (left : ℕ) (text : List ℕ) (ts : List Lexeme) → number_of from < 10 ^ 64 → HasLexemes text ts → HasLexemes (codes ", " ++ (source_text from ++ (codes ", " ++ (decimal left ++ (codes ");\n" ++ text))))) (factors_tokens from left ts)
 factors_written from left text ts below h =
@@ -156,7 +154,7 @@ terms_written (t ∷ terms) text ts below h =
 store_written : (i shift width : ℕ) (text : List ℕ) (ts : List Lexeme) → i < 10 ^ 64 → HasLexemes text ts → HasLexemes (store_line i shift width ++ text) (store_tokens i shift width ts)
 store_written i shift width text ts below h =
     along _ _ _ (seven (codes "  r") (decimal i) (codes " = LOW(SAR(a, ") (decimal shift) (codes "), ") (decimal width) (codes ");\n") text) (
-    space_before _ _ (space_before _ _ (name_before (114 ∷ decimal i) _ _ (numbered_named 114 i refl below) refl (space_before _ _ (sign_before (codes "=") _ _ refl (space_before _ _ (
+    space_before _ _ (space_before _ _ (name_before (row_letter ∷ decimal i) _ _ (numbered_named row_letter i refl below) refl (space_before _ _ (sign_before (codes "=") _ _ refl (space_before _ _ (
     name_before (codes "LOW") _ _ refl refl (sign_before (codes "(") _ _ refl (name_before (codes "SAR") _ _ refl refl (sign_before (codes "(") _ _ refl (
     name_before (codes "a") _ _ refl refl (next_before shift _ _ refl (sign_before (codes ")") _ _ refl (next_before width _ _ refl (closed_before text ts h)))))))))))))))
 
@@ -197,7 +195,7 @@ outputs_written j (i ∷ rows) text ts below h =
     along _ _ _ (append_assoc (output_line j i) (output_lines (j + 1) rows) text) (
     along _ _ _ (five (codes "  OUT(") (decimal j) (codes ", r") (decimal i) (codes ");\n") (output_lines (j + 1) rows ++ text)) (
     space_before _ _ (space_before _ _ (name_before (codes "OUT") _ _ refl refl (sign_before (codes "(") _ _ refl (number_before j _ _ refl (
-    sign_before (codes ",") _ _ refl (space_before _ _ (name_before (114 ∷ decimal i) _ _ (numbered_named 114 i refl here) refl (closed_before _ _ rest))))))))))
+    sign_before (codes ",") _ _ refl (space_before _ _ (name_before (row_letter ∷ decimal i) _ _ (numbered_named row_letter i refl here) refl (closed_before _ _ rest))))))))))
 
 keeps_written : (i k : ℕ) (text : List ℕ) (ts : List Lexeme) → i + k < 10 ^ 64 → HasLexemes text ts → HasLexemes (keep_lines i k ++ text) (keeps_tokens i k ts)
 keeps_written i zero text ts below h = h
@@ -206,8 +204,8 @@ keeps_written i (suc k) text ts below h =
     let here : i < 10 ^ 64 = omega arith in
     along _ _ _ (append_assoc (keep_line i) (keep_lines (i + 1) k) text) (
     along _ _ _ (five (codes "  s") (decimal i) (codes " = r") (decimal i) (codes ";\n") (keep_lines (i + 1) k ++ text)) (
-    space_before _ _ (space_before _ _ (name_before (115 ∷ decimal i) _ _ (numbered_named 115 i refl here) refl (space_before _ _ (sign_before (codes "=") _ _ refl (space_before _ _ (
-    name_before (114 ∷ decimal i) _ _ (numbered_named 114 i refl here) refl (sign_before (codes ";") _ _ refl (line_before _ _ rest))))))))))
+    space_before _ _ (space_before _ _ (name_before (old_letter ∷ decimal i) _ _ (numbered_named old_letter i refl here) refl (space_before _ _ (sign_before (codes "=") _ _ refl (space_before _ _ (
+    name_before (row_letter ∷ decimal i) _ _ (numbered_named row_letter i refl here) refl (sign_before (codes ";") _ _ refl (line_before _ _ rest))))))))))
 
 last_written : HasLexemes (codes "}\n") (sign (codes "}") ∷ [])
 unfolding HasLexemes

@@ -1,8 +1,11 @@
 -- A program as it is read from left to right, with the first fault in the order of the text.
-use Rattle.std.specs.Prelude.{ℕ, zero, suc, ◌+◌, ◌-◌, ◌^◌, ◌==◌, ◌||◌, min, nat_le, ℤ, pos, negsuc, ◌*ℤ◌, Bool, true, false, List, [], ◌∷◌, ◌++◌, length, codes, Option, Some, None, option_map, Result, Ok, Err, if◌then◌else◌}
+use Rattle.std.specs.Prelude.{ℕ, zero, suc, ◌+◌, ◌-◌, ◌^◌, ◌==◌, ◌||◌, min, nat_le, ℤ, pos, Bool, true, false, List, [], ◌∷◌, ◌++◌, length, codes, Option, Some, None, option_map, Result, Ok, Err, if◌then◌else◌}
 use Rattle.std.specs.Option.{option_or}
 use Rattle.std.specs.List.{list_any}
 use Rattle.std.specs.Str.{bytes_eq}
+use Rattle.fx_math.specs.Words.{is_accumulator}
+use Rattle.fx_math.specs.declared.words.TheConstants.{GREATEST_WIDTH, LEAST_WIDTH}
+use Rattle.fx_code.specs.declared.limits.TheConstants.{CODE_ROWS, COEFFICIENT_BITS, LONGEST_SHIFT}
 use Rattle.fx_code.specs.Code.{Row, Code, half_place}
 use Rattle.fx_code.specs.Limits.{same_source, start_fault, row_fault, output_fault}
 use Rattle.fx_code.specs.declared.term.CodeTerm.{CodeTerm}
@@ -15,16 +18,18 @@ use Rattle.fx_text.specs.declared.fault.CodeFault.{CodeFault}
 use Rattle.fx_text.specs.declared.fault.CodeFault.TheVariants.{Unexpected, Name, Order, Rounding, Limit, Twice, NoMemory}
 use Rattle.fx_text.specs.declared.parts.Head.{Head}
 use Rattle.fx_text.specs.declared.term.Place.{Place}
-use Rattle.fx_text.specs.Tokens.{is_letter, begins}
+use Rattle.fx_nums.specs.Signs.{signed}
+use Rattle.fx_text.specs.Tokens.{begins, input_letter, is_letter, old_letter, row_letter}
 use Rattle.fx_math.specs.Faults.{or_fault}
-use Rattle.fx_text.specs.TokenReading.{◌>>=◌, repeated, is_nothing, token_at, expect_at, pair_at, first_line_at, number_at, next_at, index_at, name_number, due_at}
+use Rattle.fx_math.specs.Faults.{◌>>=◌}
+use Rattle.fx_text.specs.TokenReading.{repeated, is_nothing, token_at, expect_at, pair_at, first_line_at, number_at, next_at, index_at, name_number, due_at}
 
 -- ---- the head
 
 unfoldable pub accumulator_at : List ℕ → ℕ → Result (ℕ × ℕ) CodeFault
 accumulator_at text at = do
   n ← number_at text at
-  if n.0 == 16 || (n.0 == 32 || n.0 == 64) then Ok n else Err (Limit Accumulator (pos n.0))
+  if is_accumulator n.0 then Ok n else Err (Limit Accumulator (pos n.0))
 
 -- `STEP ( W , inputs , rows , outputs ) {`
 unfoldable pub head_at : List ℕ → ℕ → Result (Head × ℕ) CodeFault
@@ -32,7 +37,7 @@ head_at text at = do
   a ← pair_at (codes "STEP") (codes "(") text at
   accumulator ← accumulator_at text a
   inputs ← next_at Inputs 1 4 text accumulator.1
-  rows ← next_at Rows 1 40 text inputs.1
+  rows ← next_at Rows 1 CODE_ROWS text inputs.1
   outputs ← next_at Outputs 1 4 text rows.1
   b ← pair_at (codes ")") (codes "{") text outputs.1
   Ok (record { accumulator = accumulator.0; inputs = inputs.0; rows = rows.0; outputs = outputs.0 }, b)
@@ -43,8 +48,8 @@ head_at text at = do
 unfoldable pub input_at : ℕ → List ℕ → ℕ → Result (ℕ × ℕ) CodeFault
 input_at j text at = do
   a ← pair_at (codes "IN") (codes "(") text at
-  b ← due_at 117 j text a
-  width ← next_at InputWidth 2 32 text b
+  b ← due_at input_letter j text a
+  width ← next_at InputWidth LEAST_WIDTH GREATEST_WIDTH text b
   d ← pair_at (codes ")") (codes ";") text width.1
   Ok (width.0, d)
 
@@ -59,11 +64,6 @@ inputs_at count text at = repeated count (input_more text) ([], at)
 
 -- ---- a term
 
--- a coefficient's sign
-abbrev pub signed : Bool → ℕ → ℤ
-signed true n = negsuc 0 *ℤ pos n
-signed false n = pos n
-
 -- whether a `-` is next, and the place where the number is
 unfoldable pub sign_at : List ℕ → ℕ → Result (Bool × ℕ) CodeFault
 sign_at text at = do
@@ -74,14 +74,16 @@ unfoldable pub coefficient_at : List ℕ → ℕ → Result (ℤ × ℕ) CodeFau
 coefficient_at text at = do
   minus ← sign_at text at
   n ← number_at text minus.1
-  if nat_le (2 ^ 62) n.0 then Err (Limit Coefficient (signed minus.0 n.0)) else Ok (signed minus.0 n.0, n.1)
+  if nat_le (2 ^ COEFFICIENT_BITS) n.0
+      then Err (Limit Coefficient (signed minus.0 n.0))
+      else Ok (signed minus.0 n.0, n.1)
 
 -- the source of this name, its number below the count of rows or of inputs
 unfoldable pub source_of : Place → List ℕ → Option Read
 source_of place word =
-    option_or (option_map Now (name_number 114 place.rows word)) (
-    option_or (option_map Old (name_number 115 place.rows word)) (
-    option_map In (name_number 117 place.inputs word)))
+    option_or (option_map Now (name_number row_letter place.rows word)) (
+    option_or (option_map Old (name_number old_letter place.rows word)) (
+    option_map In (name_number input_letter place.inputs word)))
 
 -- a row of this moment from the reading one on
 abbrev pub is_ahead : ℕ → Read → Bool
@@ -101,7 +103,9 @@ unfoldable pub source_at : Place → List CodeTerm → List ℕ → ℕ → Resu
 source_at place terms text at = do
   b ← expect_at (codes ",") text at
   t ← token_at text b
-  if begins is_letter t.1 then (or_fault (Name t.0) (source_of place t.1) >>= λ from. checked_source place.row terms from t.2) else Err (Unexpected t.0)
+  if begins is_letter t.1
+      then (or_fault (Name t.0) (source_of place t.1) >>= λ from. checked_source place.row terms from t.2)
+      else Err (Unexpected t.0)
 
 -- `+= MUL ( coef , source , left ) ;`
 unfoldable pub term_at : Place → List CodeTerm → List ℕ → ℕ → Result (CodeTerm × ℕ) CodeFault
@@ -110,7 +114,7 @@ term_at place terms text at = do
   b ← expect_at (codes "(") text a
   coef ← coefficient_at text b
   from ← source_at place terms text coef.1
-  left ← next_at Left 0 62 text from.1
+  left ← next_at Left 0 LONGEST_SHIFT text from.1
   d ← pair_at (codes ")") (codes ";") text left.1
   Ok (record { coef = coef.0; from = from.0; left = left.0 }, d)
 
@@ -118,14 +122,22 @@ term_at place terms text at = do
 unfoldable pub statement_at : ℕ → List ℕ → ℕ → Result (Bool × ℕ) CodeFault
 statement_at row text at = do
   t ← token_at text at
-  if bytes_eq t.1 (codes "a") then Ok (true, t.2) else (due_at 114 row text at >>= λ b. Ok (false, b))
+  if bytes_eq t.1 (codes "a")
+      then Ok (true, t.2)
+      else (due_at row_letter row text at >>= λ b. Ok (false, b))
 
--- the terms up to the store, at most as many as are left, and the place after the store's name
-unfoldable pub terms_at : ℕ → Place → List CodeTerm → List ℕ → ℕ → Result (List CodeTerm × ℕ) CodeFault
-terms_at zero place terms text at = Err (Limit Terms (pos 625))
-terms_at (suc k) place terms text at = do
+-- the terms up to the store, in so many turns, and the place after the store's name
+unfoldable pub terms_within : ℕ → Place → List CodeTerm → List ℕ → ℕ → Result (List CodeTerm × ℕ) CodeFault
+terms_within zero place terms text at = Err (Unexpected at)
+terms_within (suc turns) place terms text at = do
   statement ← statement_at place.row text at
-  if statement.0 then (term_at place terms text statement.1 >>= λ t. terms_at k place (terms ++ t.0 ∷ []) text t.1) else Ok (terms, statement.1)
+  if statement.0
+      then (term_at place terms text statement.1 >>= λ t. terms_within turns place (terms ++ t.0 ∷ []) text t.1)
+      else Ok (terms, statement.1)
+
+-- the same with no bound: a term has bytes, so no row has more terms than the text has bytes
+abbrev pub terms_at : Place → List CodeTerm → List ℕ → ℕ → Result (List CodeTerm × ℕ) CodeFault
+terms_at place terms text at = terms_within (suc (length text)) place terms text at
 
 -- ---- a row
 
@@ -148,9 +160,9 @@ store_begins_at text at = do
 unfoldable pub store_at : ℕ → List ℕ → ℕ → Result (ℕ × ℕ × ℕ) CodeFault
 store_at accumulator text at = do
   a ← store_begins_at text at
-  shift ← next_at Shift 0 (min 62 (accumulator - 1)) text a
+  shift ← next_at Shift 0 (min LONGEST_SHIFT (accumulator - 1)) text a
   b ← expect_at (codes ")") text shift.1
-  width ← next_at Width 2 (min 32 accumulator) text b
+  width ← next_at Width LEAST_WIDTH (min GREATEST_WIDTH accumulator) text b
   d ← pair_at (codes ")") (codes ";") text width.1
   Ok (shift.0, width.0, d)
 
@@ -167,7 +179,9 @@ unless_fault (Some fault) x = Err (fault_of fault)
 unless_fault None x = Ok x
 
 abbrev pub started : ℕ → List ℕ → Result Code CodeFault
-started accumulator inputs = unless_fault (start_fault accumulator inputs) (record { accumulator = accumulator; inputs = inputs; rows = []; outputs = [] })
+started accumulator inputs =
+    unless_fault (start_fault accumulator inputs)
+    (record { accumulator = accumulator; inputs = inputs; rows = []; outputs = [] })
 
 abbrev pub with_row : Code → Row → Result Code CodeFault
 with_row p row = unless_fault (row_fault p row) (record p { rows = p.rows ++ row ∷ [] })
@@ -181,13 +195,14 @@ place_of rows p = record { row = length p.rows; rows = rows; inputs = length p.i
 
 -- what a row's constant must be
 abbrev pub checked_constant : ℕ → ℕ → ℕ → Result (Unit {0}) CodeFault
-checked_constant row got shift = if got == half_place shift then Ok tt else Err (Rounding row (pos got) (pos (half_place shift)))
+checked_constant row got shift =
+    if got == half_place shift then Ok tt else Err (Rounding row (pos got) (pos (half_place shift)))
 
 -- one more row, of so many in all
 unfoldable pub row_more : ℕ → List ℕ → Code × ℕ → Result (Code × ℕ) CodeFault
 row_more rows text s = do
   constant ← constant_at text s.1
-  terms ← terms_at 625 (place_of rows s.0) [] text constant.1
+  terms ← terms_at (place_of rows s.0) [] text constant.1
   store ← store_at s.0.accumulator text terms.1
   p ← with_row s.0 (record { width = store.1; shift = store.0; terms = terms.0 })
   fits ← checked_constant (length s.0.rows) constant.0 store.0
@@ -200,7 +215,9 @@ unfoldable pub row_name_at : ℕ → List ℕ → ℕ → Result (ℕ × ℕ) Co
 row_name_at rows text at = do
   b ← expect_at (codes ",") text at
   t ← token_at text b
-  if begins is_letter t.1 then (or_fault (Name t.0) (name_number 114 rows t.1) >>= λ i. Ok (i, t.2)) else Err (Unexpected t.0)
+  if begins is_letter t.1
+      then (or_fault (Name t.0) (name_number row_letter rows t.1) >>= λ i. Ok (i, t.2))
+      else Err (Unexpected t.0)
 
 -- `OUT ( J , rI ) ;`
 unfoldable pub output_at : ℕ → ℕ → List ℕ → ℕ → Result (ℕ × ℕ) CodeFault
@@ -221,9 +238,9 @@ output_more text s = do
 -- `sI = rI ;`, the number of the next row that is kept, and the place after it
 unfoldable pub keep_more : List ℕ → ℕ × ℕ → Result (ℕ × ℕ) CodeFault
 keep_more text s = do
-  a ← due_at 115 s.0 text s.1
+  a ← due_at old_letter s.0 text s.1
   b ← expect_at (codes "=") text a
-  c ← due_at 114 s.0 text b
+  c ← due_at row_letter s.0 text b
   d ← expect_at (codes ";") text c
   Ok (s.0 + 1, d)
 

@@ -1,36 +1,25 @@
 -- Tokens as they are read from left to right, with the offset of the first fault.
 use Rattle.std.specs.Prelude.{◌≡◌, ℕ, zero, suc, ◌+◌, ◌^◌, ◌==◌, ◌&&◌, ◌||◌, Bool, true, false, not, List, [], ◌∷◌, length, take, drop, codes, pos, Option, Some, None, Result, Ok, Err, if◌then◌else◌}
-use Rattle.std.specs.List.{starts_with}
+use Rattle.std.specs.List.{list_any, starts_with}
 use Rattle.std.specs.Prelude.{nat_eq}
 use Rattle.std.specs.Str.{bytes_eq}
-use Rattle.fx_math.specs.Faults.{or_fault}
+use Rattle.fx_math.specs.Faults.{or_fault, ◌>>=◌}
+use Rattle.fx_code.specs.declared.limits.TheConstants.{CODE_ROWS}
 use Rattle.fx_code.specs.Limits.{is_outside}
 use Rattle.fx_code.specs.declared.fault.LimitOf.{LimitOf}
 use Rattle.fx_nums.specs.Whole.{whole_in}
 use Rattle.fx_text.specs.declared.fault.CodeFault.{CodeFault}
 use Rattle.fx_text.specs.declared.fault.CodeFault.TheVariants.{Token, Unexpected, Name, Number, Limit, NoMemory}
-use Rattle.fx_text.specs.Tokens.{is_blank, is_letter, is_digit, is_word, begins}
+use Rattle.fx_nums.specs.Signs.{digit_zero, is_blank, is_digit, plus_sign}
+use Rattle.fx_text.specs.Tokens.{begins, equals_mark, is_letter, is_word, number_mark}
 use Rattle.fx_text.specs.Grammar.{first_line}
 
 -- ---- answers
 
--- a step and what follows it; the first fault stands
-unfoldable pub after_step : {A B : Type 0} → Result A CodeFault → (A → Result B CodeFault) → Result B CodeFault
-after_step (Ok x) next = next x
-after_step (Err fault) next = Err fault
-
-infixl 10 ◌>>=◌
-abbrev pub ◌>>=◌ : {A B : Type 0} → Result A CodeFault → (A → Result B CodeFault) → Result B CodeFault
-read >>= next = after_step read next
-
--- want of memory may come anywhere, each other fault is the one that is read
-abbrev pub Fails : {Y : Type 0} → CodeFault → Result Y CodeFault → Type 0
-Fails NoMemory read = Unit {0}
-Fails f read = read ≡ Err f
-
-abbrev pub Gives : {X Y : Type 0} → (X → Y) → Result X CodeFault → Result Y CodeFault → Type 0
-Gives view (Ok x) read = read ≡ Ok (view x)
-Gives view (Err e) read = Fails e read
+-- the one fault that may come at any time
+abbrev pub is_memory : CodeFault → Bool
+is_memory NoMemory = true
+is_memory _ = false
 
 -- a step, this many times
 abbrev pub repeated : {S : Type 0} → ℕ → (S → Result S CodeFault) → S → Result S CodeFault
@@ -46,10 +35,10 @@ front_len test (c ∷ cs) = if test c then suc (front_len test cs) else 0
 
 -- a sign of one byte
 abbrev pub is_mark : ℕ → Bool
-is_mark c = ((((((c == 123 || c == 125) || c == 40) || c == 41) || c == 44) || c == 59) || c == 61) || c == 45
+is_mark c = list_any (λ (mark : ℕ). mark == c) (codes "{}(),;=-")
 
 abbrev pub is_equals : ℕ → Bool
-is_equals c = c == 61
+is_equals c = c == equals_mark
 
 -- the token at the front; 0 where none begins
 unfoldable pub token_len : List ℕ → ℕ
@@ -58,7 +47,7 @@ token_len (c ∷ cs) =
     if is_letter c then front_len is_word (c ∷ cs)
     else if is_digit c then front_len is_digit (c ∷ cs)
     else if is_mark c then 1
-    else if c == 43 && begins is_equals cs then 2
+    else if c == plus_sign && begins is_equals cs then 2
     else 0
 
 -- ---- tokens
@@ -69,11 +58,15 @@ is_nothing (c ∷ cs) = false
 
 -- where the token begins, its text, which is empty at the end, and where it ends
 abbrev pub token_of : ℕ → List ℕ → Result (ℕ × List ℕ × ℕ) CodeFault
-token_of start rest = if token_len rest == 0 && not (is_nothing rest) then Err (Token start) else Ok (start, take (token_len rest) rest, start + token_len rest)
+token_of start rest =
+    if token_len rest == 0 && not (is_nothing rest)
+    then Err (Token start)
+    else Ok (start, take (token_len rest) rest, start + token_len rest)
 
 -- the next token
 unfoldable pub token_at : List ℕ → ℕ → Result (ℕ × List ℕ × ℕ) CodeFault
-token_at text at = token_of (at + front_len is_blank (drop at text)) (drop (at + front_len is_blank (drop at text)) text)
+token_at text at =
+    token_of (at + front_len is_blank (drop at text)) (drop (at + front_len is_blank (drop at text)) text)
 
 -- the place after this token
 unfoldable pub expect_at : List ℕ → List ℕ → ℕ → Result ℕ CodeFault
@@ -90,10 +83,12 @@ pair_at first second text at = do
 -- the first line, and what refuses another
 abbrev pub front_fault : List ℕ → CodeFault
 front_fault [] = Unexpected 0
-front_fault (c ∷ cs) = if is_blank c || (c == 35 || not (token_len (c ∷ cs) == 0)) then Unexpected 0 else Token 0
+front_fault (c ∷ cs) =
+    if is_blank c || (c == number_mark || not (token_len (c ∷ cs) == 0)) then Unexpected 0 else Token 0
 
 unfoldable pub first_line_at : List ℕ → Result ℕ CodeFault
-first_line_at bytes = if starts_with nat_eq bytes first_line then Ok 19 else Err (front_fault bytes)
+first_line_at bytes =
+    if starts_with nat_eq bytes first_line then Ok (length first_line) else Err (front_fault bytes)
 
 -- ---- numbers
 
@@ -101,7 +96,9 @@ first_line_at bytes = if starts_with nat_eq bytes first_line then Ok 19 else Err
 unfoldable pub number_at : List ℕ → ℕ → Result (ℕ × ℕ) CodeFault
 number_at text at = do
   t ← token_at text at
-  if begins is_digit t.1 then (or_fault (Number t.0) (whole_in (2 ^ 63) t.1) >>= λ n. Ok (n.0, t.2)) else Err (Unexpected t.0)
+  if begins is_digit t.1
+      then (or_fault (Number t.0) (whole_in (2 ^ 63) t.1) >>= λ n. Ok (n.0, t.2))
+      else Err (Unexpected t.0)
 
 -- a number from low to high
 unfoldable pub ranged_at : LimitOf → ℕ → ℕ → List ℕ → ℕ → Result (ℕ × ℕ) CodeFault
@@ -116,11 +113,13 @@ next_at what low high text at = do
   ranged_at what low high text b
 
 abbrev pub is_zero : ℕ → Bool
-is_zero c = c == 48
+is_zero c = c == digit_zero
 
 -- the digits write this number below ten, zeros before it left out
 abbrev pub writes_digit : ℕ → List ℕ → Bool
-writes_digit due digits = if due == 0 then is_nothing (drop (front_len is_zero digits) digits) else bytes_eq (drop (front_len is_zero digits) digits) ((48 + due) ∷ [])
+writes_digit due digits =
+    let significant = drop (front_len is_zero digits) digits in
+    if due == 0 then is_nothing significant else bytes_eq significant ((digit_zero + due) ∷ [])
 
 -- the place after the number that is due
 unfoldable pub index_at : ℕ → List ℕ → ℕ → Result ℕ CodeFault
@@ -145,7 +144,8 @@ then_alone None = None
 
 -- the number below the limit of a name with this letter
 unfoldable pub name_number : ℕ → ℕ → List ℕ → Option ℕ
-name_number letter limit word = if begins (is_letter_of letter) word then then_alone (whole_in limit (drop 1 word)) else None
+name_number letter limit word =
+    if begins (is_letter_of letter) word then then_alone (whole_in limit (drop 1 word)) else None
 
 abbrev pub is_some_of : ℕ → Option ℕ → Bool
 is_some_of n (Some m) = m == n
@@ -155,4 +155,6 @@ is_some_of n None = false
 unfoldable pub due_at : ℕ → ℕ → List ℕ → ℕ → Result ℕ CodeFault
 due_at letter n text at = do
   t ← token_at text at
-  if begins is_letter t.1 then (if is_some_of n (name_number letter 40 t.1) then Ok t.2 else Err (Name t.0)) else Err (Unexpected t.0)
+  if begins is_letter t.1
+      then (if is_some_of n (name_number letter CODE_ROWS t.1) then Ok t.2 else Err (Name t.0))
+      else Err (Unexpected t.0)

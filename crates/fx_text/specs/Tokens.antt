@@ -3,22 +3,47 @@ use Rattle.std.specs.Prelude.{◌≡◌, ℕ, ◌==◌, ◌&&◌, ◌||◌, Bool
 use Rattle.std.specs.Fmt.{decimal}
 use Rattle.std.specs.List.{list_all, list_any}
 use Rattle.std.specs.Str.{bytes_eq}
+use Rattle.fx_nums.specs.Signs.{is_blank, is_digit}
 
 -- ---- bytes
 
--- a space, a tab, a carriage return or a line feed
-abbrev pub is_blank : ℕ → Bool
-is_blank c = ((c == 32 || c == 9) || c == 13) || c == 10
+-- the letters of a row's word of this moment, of its word of the moment before, and of an input's word
+abbrev pub row_letter : ℕ
+row_letter = 114
+
+abbrev pub old_letter : ℕ
+old_letter = 115
+
+abbrev pub input_letter : ℕ
+input_letter = 117
+
+abbrev pub small_a : ℕ
+small_a = 97
+
+abbrev pub small_z : ℕ
+small_z = 122
+
+abbrev pub capital_a : ℕ
+capital_a = 65
+
+abbrev pub capital_z : ℕ
+capital_z = 90
+
+abbrev pub underscore : ℕ
+underscore = 95
+
+abbrev pub equals_mark : ℕ
+equals_mark = 61
+
+abbrev pub number_mark : ℕ
+number_mark = 35
 
 abbrev pub is_letter : ℕ → Bool
-is_letter c = (nat_le 97 c && nat_le c 122) || (nat_le 65 c && nat_le c 90)
-
-abbrev pub is_digit : ℕ → Bool
-is_digit c = nat_le 48 c && nat_le c 57
+is_letter c = (nat_le small_a c && nat_le c small_z) || (nat_le capital_a c && nat_le c capital_z)
 
 -- a byte of a name behind its first
 abbrev pub is_word : ℕ → Bool
-is_word c = (is_letter c || is_digit c) || c == 95
+is_word c = (is_letter c || is_digit c) || c == underscore
 
 -- the first byte passes a test
 abbrev pub begins : (ℕ → Bool) → List ℕ → Bool
@@ -32,8 +57,13 @@ abbrev pub is_name : List ℕ → Bool
 is_name [] = false
 is_name (c ∷ cs) = is_letter c && list_all is_word cs
 
+abbrev pub signs : List (List ℕ)
+signs =
+    codes "{" ∷ codes "}" ∷ codes "(" ∷ codes ")" ∷ codes "," ∷ codes ";" ∷ codes "=" ∷ codes "+="
+    ∷ codes "-" ∷ []
+
 abbrev pub is_sign : List ℕ → Bool
-is_sign s = list_any (bytes_eq s) (codes "{" ∷ codes "}" ∷ codes "(" ∷ codes ")" ∷ codes "," ∷ codes ";" ∷ codes "=" ∷ codes "+=" ∷ codes "-" ∷ [])
+is_sign s = list_any (bytes_eq s) signs
 
 -- a name, a number or a sign
 pub data Lexeme : Type 0 where

@@ -8,7 +8,9 @@ use Rattle.fx_code.specs.declared.term.Read.TheVariants.{Now, Old, In}
 use Rattle.fx_text.specs.Grammar.{first_line}
 
 abbrev pub head_line : Code → List ℕ
-head_line p = codes "STEP(" ++ (decimal p.accumulator ++ (codes ", " ++ (decimal (length p.inputs) ++ (codes ", " ++ (decimal (length p.rows) ++ (codes ", " ++ (decimal (length p.outputs) ++ codes ")\n{\n")))))))
+head_line p =
+    codes "STEP(" ++ (decimal p.accumulator ++ (codes ", " ++ (decimal (length p.inputs) ++ (codes ", "
+    ++ (decimal (length p.rows) ++ (codes ", " ++ (decimal (length p.outputs) ++ codes ")\n{\n")))))))
 
 abbrev pub input_line : ℕ → ℕ → List ℕ
 input_line j width = codes "  IN(u" ++ (decimal j ++ (codes ", " ++ (decimal width ++ codes ");\n")))
@@ -27,18 +29,23 @@ source_text (Old i) = codes "s" ++ decimal i
 source_text (In j) = codes "u" ++ decimal j
 
 abbrev pub term_line : CodeTerm → List ℕ
-term_line t = codes "  a += MUL(" ++ (signed_decimal t.coef ++ (codes ", " ++ (source_text t.from ++ (codes ", " ++ (decimal t.left ++ codes ");\n")))))
+term_line t =
+    codes "  a += MUL(" ++ (signed_decimal t.coef ++ (codes ", " ++ (source_text t.from ++ (codes ", "
+    ++ (decimal t.left ++ codes ");\n")))))
 
 abbrev pub term_lines : List CodeTerm → List ℕ
 term_lines [] = []
 term_lines (t ∷ ts) = term_line t ++ term_lines ts
 
 abbrev pub store_line : ℕ → ℕ → ℕ → List ℕ
-store_line i shift width = codes "  r" ++ (decimal i ++ (codes " = LOW(SAR(a, " ++ (decimal shift ++ (codes "), " ++ (decimal width ++ codes ");\n")))))
+store_line i shift width =
+    codes "  r" ++ (decimal i ++ (codes " = LOW(SAR(a, " ++ (decimal shift ++ (codes "), "
+    ++ (decimal width ++ codes ");\n")))))
 
 -- the lines of row i
 abbrev pub row_lines : ℕ → Row → List ℕ
-row_lines i row = constant_line (half_place row.shift) ++ (term_lines row.terms ++ store_line i row.shift row.width)
+row_lines i row =
+    constant_line (half_place row.shift) ++ (term_lines row.terms ++ store_line i row.shift row.width)
 
 -- those of the rows from row i on
 abbrev pub rows_lines : ℕ → List Row → List ℕ
@@ -64,4 +71,5 @@ keep_lines i (suc k) = keep_line i ++ keep_lines (i + 1) k
 -- the whole text
 abbrev pub code_text : Code → List ℕ
 code_text p =
-    first_line ++ (head_line p ++ (input_lines 0 p.inputs ++ (rows_lines 0 p.rows ++ (output_lines 0 p.outputs ++ (keep_lines 0 (length p.rows) ++ codes "}\n")))))
+    first_line ++ (head_line p ++ (input_lines 0 p.inputs ++ (rows_lines 0 p.rows
+    ++ (output_lines 0 p.outputs ++ (keep_lines 0 (length p.rows) ++ codes "}\n")))))

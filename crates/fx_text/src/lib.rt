@@ -11,5 +11,7 @@ mod token;
 mod writer;
 
 pub use fault::CodeFault;
-pub use reader::{code_is_read_exactly, read_code, text_spells_one_program};
+pub use reader::{
+    code_is_read_exactly, read_code, terms_are_read_to_the_store, text_spells_one_program,
+};
 pub use writer::{write_code, written_code_is_spelled};

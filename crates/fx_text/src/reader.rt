@@ -2,23 +2,24 @@
 
 ghost use Rattle.std.specs.Prelude.{◌≡◌, ◌≤◌, ◌<◌, ◌+◌, [], length, IfOk, OnOk};
 ghost use Rattle.fx_code.specs.Code.{IsWhole};
-ghost use Rattle.fx_text.specs.TokenReading.{Gives, repeated};
+ghost use Rattle.fx_math.specs.Answers.{Gives};
+ghost use Rattle.fx_text.specs.TokenReading.{is_memory, repeated};
 ghost use Rattle.fx_text.specs.Reading.{inputs_at, input_more, started, with_row, with_output, row_more, output_more, keep_more, body_at, code_in};
-ghost use Rattle.fx_text.specs.Laws.{CodeLaw, OneProgram};
+ghost use Rattle.fx_text.specs.Laws.{CodeLaw, OneProgram, TermsLaw};
 
 use crate::fault::CodeFault;
 use crate::parts::{Head, end_at, head_at, input_at, output_at};
 use crate::term::{Place, checked_constant, constant_at, store_at, terms_at};
 use crate::token::{due_at, expect_at, first_line_at};
-use fx_code::{CodeTerm, Program};
+use fx_code::{CODE_ROWS, CodeTerm, Program};
 use std::alloc::Global;
 
 // Reads one more width behind the others; the place after it.
-#[tactic(auto, unfolding(crate::specs::Reading::input_more, crate::specs::TokenReading::after_step))]
+#[tactic(auto, unfolding(crate::specs::Reading::input_more))]
 fn input_more(text: &[u8], at: usize, widths: &mut Vec<u8>) -> Result<usize, CodeFault>
     requires place { at ≤ length text.now }
-    requires few { length widths.old.items < 40 }
-    ensures gives { Gives (λ n. (widths.new.items, n)) result (input_more text.now (widths.old.items, at)) }
+    requires few { length widths.old.items < CODE_ROWS }
+    ensures gives { Gives is_memory (λ n. (widths.new.items, n)) result (input_more text.now (widths.old.items, at)) }
     ensures within { IfOk result (λ n. n ≤ length text.now) }
     ensures more { OnOk result (length widths.new.items ≡ length widths.old.items + 1) }
 {
@@ -35,8 +36,8 @@ fn inputs_at(
     count: u8,
 ) -> Result<(Vec<u8>, usize), CodeFault>
     requires place { start ≤ length text.now }
-    requires few { count ≤ 40 }
-    ensures gives { Gives (λ w. (w.0.items, w.1)) result (inputs_at count text.now start) }
+    requires few { count ≤ CODE_ROWS }
+    ensures gives { Gives is_memory (λ w. (w.0.items, w.1)) result (inputs_at count text.now start) }
     ensures within { IfOk result (λ w. w.1 ≤ length text.now) }
 {
     let mut widths = Vec::new(alloc);
@@ -49,7 +50,7 @@ fn inputs_at(
 
 // A program without rows.
 fn started(alloc: Global, accumulator: u8, widths: &[u8]) -> Result<Program, CodeFault>
-    ensures { Gives (λ p. p) result (started accumulator widths.now) }
+    ensures { Gives is_memory (λ p. p) result (started accumulator widths.now) }
 {
     let program = Program::start(alloc, accumulator, widths)?;
     Ok(program)
@@ -62,7 +63,7 @@ fn with_row(
     shift: u8,
     terms: &[CodeTerm],
 ) -> Result<(), CodeFault>
-    ensures { Gives (λ _. program.new) result (with_row program.old (record { width = width; shift = shift; terms = terms.now })) }
+    ensures { Gives is_memory (λ _. program.new) result (with_row program.old (record { width = width; shift = shift; terms = terms.now })) }
 {
     program.add_row(width, shift, terms)?;
     Ok(())
@@ -70,14 +71,14 @@ fn with_row(
 
 // Adds an output.
 fn with_output(program: &mut Program, row: u8) -> Result<(), CodeFault>
-    ensures { Gives (λ _. program.new) result (with_output program.old row) }
+    ensures { Gives is_memory (λ _. program.new) result (with_output program.old row) }
 {
     program.add_output(row)?;
     Ok(())
 }
 
 // Reads one more row of so many in all; the place after it.
-#[tactic(auto, unfolding(crate::specs::Reading::row_more, crate::specs::TokenReading::after_step))]
+#[tactic(auto, unfolding(crate::specs::Reading::row_more))]
 fn row_more(
     alloc: Global,
     text: &[u8],
@@ -86,7 +87,7 @@ fn row_more(
     program: &mut Program,
 ) -> Result<usize, CodeFault>
     requires { at ≤ length text.now }
-    ensures gives { Gives (λ n. (program.new, n)) result (row_more rows text.now (program.old, at)) }
+    ensures gives { Gives is_memory (λ n. (program.new, n)) result (row_more rows text.now (program.old, at)) }
     ensures within { IfOk result (λ n. n ≤ length text.now) }
 {
     let place = Place {
@@ -111,7 +112,7 @@ fn rows_at(
     program: &mut Program,
 ) -> Result<usize, CodeFault>
     requires { start ≤ length text.now }
-    ensures gives { Gives (λ n. (program.new, n)) result (repeated rows (row_more rows text.now) (program.old, start)) }
+    ensures gives { Gives is_memory (λ n. (program.new, n)) result (repeated rows (row_more rows text.now) (program.old, start)) }
     ensures within { IfOk result (λ n. n ≤ length text.now) }
 {
     let mut at = start;
@@ -122,10 +123,10 @@ fn rows_at(
 }
 
 // Reads one more output; the place after it.
-#[tactic(auto, unfolding(crate::specs::Reading::output_more, crate::specs::TokenReading::after_step))]
+#[tactic(auto, unfolding(crate::specs::Reading::output_more))]
 fn output_more(text: &[u8], at: usize, program: &mut Program) -> Result<usize, CodeFault>
     requires { at ≤ length text.now }
-    ensures gives { Gives (λ n. (program.new, n)) result (output_more text.now (program.old, at)) }
+    ensures gives { Gives is_memory (λ n. (program.new, n)) result (output_more text.now (program.old, at)) }
     ensures within { IfOk result (λ n. n ≤ length text.now) }
 {
     let j = program.outputs().len() as u8;
@@ -142,7 +143,7 @@ fn outputs_at(
     program: &mut Program,
 ) -> Result<usize, CodeFault>
     requires { start ≤ length text.now }
-    ensures gives { Gives (λ n. (program.new, n)) result (repeated count (output_more text.now) (program.old, start)) }
+    ensures gives { Gives is_memory (λ n. (program.new, n)) result (repeated count (output_more text.now) (program.old, start)) }
     ensures within { IfOk result (λ n. n ≤ length text.now) }
 {
     let mut at = start;
@@ -153,10 +154,10 @@ fn outputs_at(
 }
 
 // The place after `sI = rI ;`.
-#[tactic(auto, unfolding(crate::specs::Reading::keep_more, crate::specs::TokenReading::after_step))]
+#[tactic(auto, unfolding(crate::specs::Reading::keep_more))]
 fn keep_more(text: &[u8], at: usize, row: u8) -> Result<usize, CodeFault>
     requires { at ≤ length text.now }
-    ensures gives { Gives (λ n. (row + 1, n)) result (keep_more text.now (row, at)) }
+    ensures gives { Gives is_memory (λ n. (row + 1, n)) result (keep_more text.now (row, at)) }
     ensures within { IfOk result (λ n. n ≤ length text.now) }
 {
     let at = due_at(text, at, b's', row)?;
@@ -169,7 +170,7 @@ fn keep_more(text: &[u8], at: usize, row: u8) -> Result<usize, CodeFault>
 // The place after the words of so many rows that are kept.
 fn keeps_at(text: &[u8], start: usize, rows: u8) -> Result<usize, CodeFault>
     requires { start ≤ length text.now }
-    ensures gives { Gives (λ n. (rows, n)) result (repeated rows (keep_more text.now) (0, start)) }
+    ensures gives { Gives is_memory (λ n. (rows, n)) result (repeated rows (keep_more text.now) (0, start)) }
     ensures within { IfOk result (λ n. n ≤ length text.now) }
 {
     let mut at = start;
@@ -180,11 +181,11 @@ fn keeps_at(text: &[u8], start: usize, rows: u8) -> Result<usize, CodeFault>
 }
 
 // The program of what follows the head.
-#[tactic(auto, unfolding(crate::specs::Reading::body_at, crate::specs::TokenReading::after_step))]
+#[tactic(auto, unfolding(crate::specs::Reading::body_at))]
 fn body_at(alloc: Global, text: &[u8], at: usize, head: &Head) -> Result<Program, CodeFault>
     requires place { at ≤ length text.now }
-    requires few { head.now.inputs ≤ 40 }
-    ensures gives { Gives (λ p. p) result (body_at head.now text.now at) }
+    requires few { head.now.inputs ≤ CODE_ROWS }
+    ensures gives { Gives is_memory (λ p. p) result (body_at head.now text.now at) }
 {
     let (widths, at) = inputs_at(alloc, text, at, head.inputs)?;
     let mut program = started(alloc, head.accumulator, &widths)?;
@@ -200,9 +201,9 @@ fn body_at(alloc: Global, text: &[u8], at: usize, head: &Head) -> Result<Program
 /// # Errors
 ///
 /// The first fault in the order of the text, and `NoMemory` where memory is refused.
-#[tactic(auto, unfolding(crate::specs::Reading::code_in, crate::specs::TokenReading::after_step))]
+#[tactic(auto, unfolding(crate::specs::Reading::code_in))]
 pub fn read_code(alloc: Global, bytes: &[u8]) -> Result<Program, CodeFault>
-    ensures read { Gives (λ p. p) result (code_in bytes.now) }
+    ensures read { Gives is_memory (λ p. p) result (code_in bytes.now) }
     ensures whole { IfOk result (λ p. IsWhole p) }
 {
     let at = first_line_at(bytes)?;
@@ -218,4 +219,9 @@ pub fn code_is_read_exactly()
 /// A law with nothing to run: a text spells at most one program.
 pub fn text_spells_one_program()
     ensures { OneProgram }
+{}
+
+/// A law with nothing to run: the terms of a row are read up to its store, however many there are.
+pub fn terms_are_read_to_the_store()
+    ensures { TermsLaw }
 {}

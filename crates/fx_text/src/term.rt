@@ -1,17 +1,18 @@
 //! The parts of a row.
 
 ghost use Rattle.std.specs.Prelude.{◌≡◌, ◌≤◌, ◌<◌, ◌^◌, [], length, pos, IfOk, None};
-ghost use Rattle.std.specs.List.{list_any};
 ghost use Rattle.fx_code.specs.Code.{half_place};
-ghost use Rattle.fx_code.specs.Limits.{same_source};
-ghost use Rattle.fx_text.specs.TokenReading.{Gives};
-ghost use Rattle.fx_text.specs.Reading.{signed, sign_at, coefficient_at, source_of, is_ahead, checked_source, source_at, term_at, statement_at, terms_at, constant_at, store_begins_at, store_at, checked_constant};
+ghost use Rattle.fx_math.specs.Answers.{Gives};
+ghost use Rattle.fx_text.specs.TokenReading.{is_memory};
+ghost use Rattle.fx_nums.specs.Signs.{signed};
+ghost use Rattle.fx_text.specs.Reading.{sign_at, coefficient_at, source_of, is_ahead, checked_source, source_at, term_at, statement_at, terms_at, constant_at, store_begins_at, store_at, checked_constant};
 
 use crate::fault::CodeFault;
 use crate::token::{
     begins_with_letter, due_at, expect_at, name_number, next_at, number_at, pair_at, token_at,
 };
-use fx_code::{CodeTerm, LimitOf, Read};
+use fx_code::{COEFFICIENT_BITS, CodeTerm, LONGEST_SHIFT, LimitOf, Read, reads_source};
+use fx_math::{GREATEST_WIDTH, LEAST_WIDTH};
 use std::alloc::Global;
 
 /// Where a row stands: its number, the count of rows and the count of inputs.
@@ -35,10 +36,10 @@ fn signed(negative: bool, magnitude: u64) -> i64
 }
 
 // Whether a `-` is next, and the place where its number is.
-#[tactic(auto, unfolding(crate::specs::Reading::sign_at, crate::specs::TokenReading::after_step))]
+#[tactic(auto, unfolding(crate::specs::Reading::sign_at))]
 fn sign_at(text: &[u8], at: usize) -> Result<(bool, usize), CodeFault>
     requires { at ≤ length text.now }
-    ensures gives { Gives (λ s. s) result (sign_at text.now at) }
+    ensures gives { Gives is_memory (λ s. s) result (sign_at text.now at) }
     ensures within { IfOk result (λ s. s.1 ≤ length text.now) }
 {
     let (_, word, end) = token_at(text, at)?;
@@ -49,17 +50,17 @@ fn sign_at(text: &[u8], at: usize) -> Result<(bool, usize), CodeFault>
     }
 }
 
-// A coefficient below 2^62 in magnitude, and the place after it.
-#[tactic(auto, unfolding(crate::specs::Reading::coefficient_at, crate::specs::TokenReading::after_step))]
+// A coefficient within its limit, and the place after it.
+#[tactic(auto, unfolding(crate::specs::Reading::coefficient_at))]
 fn coefficient_at(text: &[u8], at: usize) -> Result<(i64, usize), CodeFault>
     requires { at ≤ length text.now }
-    ensures gives { Gives (λ k. k) result (coefficient_at text.now at) }
+    ensures gives { Gives is_memory (λ k. k) result (coefficient_at text.now at) }
     ensures within { IfOk result (λ k. k.1 ≤ length text.now) }
 {
     let (negative, at) = sign_at(text, at)?;
     let (magnitude, at) = number_at(text, at)?;
     let coefficient = signed(negative, magnitude);
-    if magnitude >= 1 << 62 {
+    if magnitude >= 1 << COEFFICIENT_BITS {
         return Err(CodeFault::Limit(LimitOf::Coefficient, i128::from(coefficient)));
     }
     Ok((coefficient, at))
@@ -93,13 +94,6 @@ fn is_ahead(row: u8, from: Read) -> bool
     }
 }
 
-// Whether a source is read.
-fn reads_source(terms: &[CodeTerm], from: Read) -> bool
-    ensures { result ≡ list_any (λ e. same_source e.from from) terms.now }
-{
-    terms.iter().any(|e| e.from == from)
-}
-
 // A source behind those of earlier terms, and the place after it.
 fn checked_source(
     row: u8,
@@ -107,7 +101,7 @@ fn checked_source(
     from: Read,
     at: usize,
 ) -> Result<(Read, usize), CodeFault>
-    ensures gives { Gives (λ s. s) result (checked_source row terms.now from at) }
+    ensures gives { Gives is_memory (λ s. s) result (checked_source row terms.now from at) }
     ensures place { IfOk result (λ s. s.1 ≡ at) }
 {
     if is_ahead(row, from) {
@@ -120,7 +114,7 @@ fn checked_source(
 }
 
 // A source behind a comma and those of earlier terms, and the place after it.
-#[tactic(auto, unfolding(crate::specs::Reading::source_at, crate::specs::TokenReading::after_step))]
+#[tactic(auto, unfolding(crate::specs::Reading::source_at))]
 fn source_at(
     text: &[u8],
     at: usize,
@@ -128,7 +122,7 @@ fn source_at(
     terms: &[CodeTerm],
 ) -> Result<(Read, usize), CodeFault>
     requires { at ≤ length text.now }
-    ensures gives { Gives (λ s. s) result (source_at place.now terms.now text.now at) }
+    ensures gives { Gives is_memory (λ s. s) result (source_at place.now terms.now text.now at) }
     ensures within { IfOk result (λ s. s.1 ≤ length text.now) }
 {
     let at = expect_at(text, at, b",")?;
@@ -143,7 +137,7 @@ fn source_at(
 }
 
 // `+= MUL ( coef , source , left ) ;` behind earlier terms, and the place after it.
-#[tactic(auto, unfolding(crate::specs::Reading::term_at, crate::specs::TokenReading::after_step))]
+#[tactic(auto, unfolding(crate::specs::Reading::term_at))]
 fn term_at(
     text: &[u8],
     at: usize,
@@ -151,23 +145,23 @@ fn term_at(
     terms: &[CodeTerm],
 ) -> Result<(CodeTerm, usize), CodeFault>
     requires { at ≤ length text.now }
-    ensures gives { Gives (λ t. t) result (term_at place.now terms.now text.now at) }
+    ensures gives { Gives is_memory (λ t. t) result (term_at place.now terms.now text.now at) }
     ensures within { IfOk result (λ t. t.1 ≤ length text.now) }
 {
     let at = pair_at(text, at, b"+=", b"MUL")?;
     let at = expect_at(text, at, b"(")?;
     let (coef, at) = coefficient_at(text, at)?;
     let (from, at) = source_at(text, at, place, terms)?;
-    let (left, at) = next_at(text, at, LimitOf::Left, 0, 62)?;
+    let (left, at) = next_at(text, at, LimitOf::Left, 0, LONGEST_SHIFT)?;
     let at = pair_at(text, at, b")", b";")?;
     Ok((CodeTerm { coef, from, left }, at))
 }
 
 // Whether a term begins, and not the store of this row, and the place after its name.
-#[tactic(auto, unfolding(crate::specs::Reading::statement_at, crate::specs::TokenReading::after_step))]
+#[tactic(auto, unfolding(crate::specs::Reading::statement_at))]
 fn statement_at(text: &[u8], at: usize, row: u8) -> Result<(bool, usize), CodeFault>
     requires { at ≤ length text.now }
-    ensures gives { Gives (λ s. s) result (statement_at row text.now at) }
+    ensures gives { Gives is_memory (λ s. s) result (statement_at row text.now at) }
     ensures within { IfOk result (λ s. s.1 ≤ length text.now) }
 {
     let (_, word, end) = token_at(text, at)?;
@@ -186,12 +180,12 @@ pub fn terms_at(
     place: &Place,
 ) -> Result<(Vec<CodeTerm>, usize), CodeFault>
     requires { start ≤ length text.now }
-    ensures gives { Gives (λ t. (t.0.items, t.1)) result (terms_at 625 place.now [] text.now start) }
+    ensures gives { Gives is_memory (λ t. (t.0.items, t.1)) result (terms_at place.now [] text.now start) }
     ensures within { IfOk result (λ t. t.1 ≤ length text.now) }
 {
     let mut terms = Vec::new(alloc);
     let mut at = start;
-    for _ in 0..625u16 {
+    loop {
         let (is_term, behind) = statement_at(text, at, place.row)?;
         if !is_term {
             return Ok((terms, behind));
@@ -200,14 +194,13 @@ pub fn terms_at(
         terms.push(term)?;
         at = end;
     }
-    Err(CodeFault::Limit(LimitOf::Terms, 625))
 }
 
 // The number of `a = number ;`, and the place after it.
-#[tactic(auto, unfolding(crate::specs::Reading::constant_at, crate::specs::TokenReading::after_step))]
+#[tactic(auto, unfolding(crate::specs::Reading::constant_at))]
 pub fn constant_at(text: &[u8], at: usize) -> Result<(u64, usize), CodeFault>
     requires { at ≤ length text.now }
-    ensures gives { Gives (λ n. n) result (constant_at text.now at) }
+    ensures gives { Gives is_memory (λ n. n) result (constant_at text.now at) }
     ensures within { IfOk result (λ n. (n.0 < 2 ^ 63) × (n.1 ≤ length text.now)) }
 {
     let at = pair_at(text, at, b"a", b"=")?;
@@ -217,10 +210,10 @@ pub fn constant_at(text: &[u8], at: usize) -> Result<(u64, usize), CodeFault>
 }
 
 // `= LOW ( SAR ( a`, and the place after it.
-#[tactic(auto, unfolding(crate::specs::Reading::store_begins_at, crate::specs::TokenReading::after_step))]
+#[tactic(auto, unfolding(crate::specs::Reading::store_begins_at))]
 fn store_begins_at(text: &[u8], at: usize) -> Result<usize, CodeFault>
     requires { at ≤ length text.now }
-    ensures gives { Gives (λ n. n) result (store_begins_at text.now at) }
+    ensures gives { Gives is_memory (λ n. n) result (store_begins_at text.now at) }
     ensures within { IfOk result (λ n. n ≤ length text.now) }
 {
     let at = pair_at(text, at, b"=", b"LOW")?;
@@ -229,24 +222,26 @@ fn store_begins_at(text: &[u8], at: usize) -> Result<usize, CodeFault>
 }
 
 // The shift and the width of `= LOW ( SAR ( a , shift ) , width ) ;`, and the place after it.
-#[tactic(auto, unfolding(crate::specs::Reading::store_at, crate::specs::TokenReading::after_step))]
+#[tactic(auto, unfolding(crate::specs::Reading::store_at))]
 pub fn store_at(text: &[u8], at: usize, accumulator: u8) -> Result<(u8, u8, usize), CodeFault>
     requires place { at ≤ length text.now }
     requires bits { 16 ≤ accumulator }
-    ensures gives { Gives (λ s. s) result (store_at accumulator text.now at) }
-    ensures within { IfOk result (λ s. (s.0 ≤ 62) × (s.2 ≤ length text.now)) }
+    ensures gives { Gives is_memory (λ s. s) result (store_at accumulator text.now at) }
+    ensures within { IfOk result (λ s. (s.0 ≤ LONGEST_SHIFT) × (s.2 ≤ length text.now)) }
 {
     let at = store_begins_at(text, at)?;
-    let (shift, at) = next_at(text, at, LimitOf::Shift, 0, (accumulator - 1).min(62))?;
+    let longest = LONGEST_SHIFT.min(accumulator - 1);
+    let (shift, at) = next_at(text, at, LimitOf::Shift, 0, longest)?;
     let at = expect_at(text, at, b")")?;
-    let (width, at) = next_at(text, at, LimitOf::Width, 2, accumulator.min(32))?;
+    let widest = GREATEST_WIDTH.min(accumulator);
+    let (width, at) = next_at(text, at, LimitOf::Width, LEAST_WIDTH, widest)?;
     let at = pair_at(text, at, b")", b";")?;
     Ok((shift, width, at))
 }
 
 // Half of the last place that a right shift drops.
 fn half_place(shift: u8) -> u64
-    requires { shift ≤ 62 }
+    requires { shift ≤ LONGEST_SHIFT }
     ensures value { result ≡ half_place shift }
     ensures small { result < 2 ^ 63 }
 {
@@ -259,8 +254,8 @@ fn half_place(shift: u8) -> u64
 // A row's constant is the one that its shift demands.
 pub fn checked_constant(row: u8, got: u64, shift: u8) -> Result<(), CodeFault>
     requires number { got < 2 ^ 63 }
-    requires shift { shift ≤ 62 }
-    ensures { Gives (λ _. tt) result (checked_constant row got shift) }
+    requires shift { shift ≤ LONGEST_SHIFT }
+    ensures { Gives is_memory (λ _. tt) result (checked_constant row got shift) }
 {
     let wanted = half_place(shift);
     if got == wanted {

@@ -175,3 +175,83 @@ fn outputs_are_refused(rt: HostRuntime) {
         assert_eq!(rt; fault_of(rt.alloc(), text), Some(fault));
     }
 }
+
+// A text behind the first line and the statement of one input of 16 bits, where it has one row.
+fn behind_head(alloc: Global, text: &str) -> Result<String, Fail> {
+    let text = format!(in alloc; "#include \"fixif.h\"\nSTEP(32,1,1,1){{IN(u0,16);{text}")?;
+    Ok(text)
+}
+
+fn limits_of_heads() -> [(&'static [u8], CodeFault); 5] {
+    [
+        (
+            b"#include \"fixif.h\"\nSTEP(48".as_slice(),
+            CodeFault::Limit(LimitOf::Accumulator, 48),
+        ),
+        (
+            b"#include \"fixif.h\"\nSTEP(16,5".as_slice(),
+            CodeFault::Limit(LimitOf::Inputs, 5),
+        ),
+        (
+            b"#include \"fixif.h\"\nSTEP(64,4,41".as_slice(),
+            CodeFault::Limit(LimitOf::Rows, 41),
+        ),
+        (
+            b"#include \"fixif.h\"\nSTEP(64,4,40,0".as_slice(),
+            CodeFault::Limit(LimitOf::Outputs, 0),
+        ),
+        (
+            b"#include \"fixif.h\"\nSTEP(64,1,1,1){IN(u0,33".as_slice(),
+            CodeFault::Limit(LimitOf::InputWidth, 33),
+        ),
+    ]
+}
+
+fn limits_of_rows() -> [(&'static str, CodeFault); 5] {
+    [
+        (
+            "a=0;a+=MUL(4611686018427387904",
+            CodeFault::Limit(LimitOf::Coefficient, 4611686018427387904),
+        ),
+        ("a=0;a+=MUL(1,u0,63", CodeFault::Limit(LimitOf::Left, 63)),
+        ("a=0;r0=LOW(SAR(a,32", CodeFault::Limit(LimitOf::Shift, 32)),
+        (
+            "a=0;r0=LOW(SAR(a,0),33",
+            CodeFault::Limit(LimitOf::Width, 33),
+        ),
+        (
+            "a=0;a+=MUL(1,u0,24);r0=LOW(SAR(a,0),16);",
+            CodeFault::Limit(LimitOf::Product, 16777216),
+        ),
+    ]
+}
+
+// 16 rows, each with a term for each of 40 rows of the moment before.
+fn too_many_terms(alloc: Global) -> Result<String, Fail> {
+    let mut text = String::from_str(alloc, "#include \"fixif.h\"\nSTEP(32,1,40,1){IN(u0,16);")?;
+    for row in 0..16u8 {
+        text.push_str("a=0;")?;
+        for source in 0..40u8 {
+            let term = format!(in alloc; "a+=MUL(1,s{source},0);")?;
+            text.push_str(term.as_str())?;
+        }
+        let store = format!(in alloc; "r{row}=LOW(SAR(a,0),16);")?;
+        text.push_str(store.as_str())?;
+    }
+    Ok(text)
+}
+
+#[test]
+fn limits_are_told(rt: HostRuntime) -> Result<(), Fail> {
+    for (text, fault) in limits_of_heads() {
+        assert_eq!(rt; fault_of(rt.alloc(), text), Some(fault));
+    }
+    for (text, fault) in limits_of_rows() {
+        let text = behind_head(rt.alloc(), text)?;
+        assert_eq!(rt; fault_of(rt.alloc(), text.as_bytes()), Some(fault));
+    }
+    let text = too_many_terms(rt.alloc())?;
+    let fault = CodeFault::Limit(LimitOf::Terms, 640);
+    assert_eq!(rt; fault_of(rt.alloc(), text.as_bytes()), Some(fault));
+    Ok(())
+}

@@ -1,12 +1,17 @@
 //! Tokens of a text from left to right. Places are offsets in the whole text.
 
 ghost use Rattle.std.specs.Prelude.{◌≡◌, ◌≤◌, ◌<◌, ◌^◌, ◌+◌, ◌-◌, length, take, drop, IfOk, IfSome};
-ghost use Rattle.fx_text.specs.Tokens.{is_blank, is_letter, is_digit, is_word, begins};
-ghost use Rattle.fx_text.specs.TokenReading.{Gives, front_len, is_zero, is_mark, token_len, token_at, expect_at, pair_at, front_fault, first_line_at, number_at, ranged_at, next_at, writes_digit, index_at, name_number, due_at};
+ghost use Rattle.fx_nums.specs.Signs.{is_blank, is_digit};
+ghost use Rattle.fx_text.specs.Tokens.{is_letter, is_word, begins};
+ghost use Rattle.fx_math.specs.Answers.{Gives};
+ghost use Rattle.fx_text.specs.TokenReading.{is_memory, front_len, is_zero, is_mark, token_len, token_at, expect_at, pair_at, front_fault, first_line_at, number_at, ranged_at, next_at, writes_digit, index_at, name_number, due_at};
 
 use crate::fault::CodeFault;
-use fx_code::LimitOf;
+use fx_code::{CODE_ROWS, LimitOf};
 use fx_nums::whole_at;
+
+/// The first line of each program's text.
+pub const FIRST_LINE: &[u8] = b"#include \"fixif.h\"\n";
 
 fn is_blank(byte: u8) -> bool
     ensures { result ≡ is_blank byte }
@@ -37,14 +42,7 @@ fn is_word(byte: u8) -> bool
 fn is_mark(byte: u8) -> bool
     ensures { result ≡ is_mark byte }
 {
-    byte == b'{'
-        || byte == b'}'
-        || byte == b'('
-        || byte == b')'
-        || byte == b','
-        || byte == b';'
-        || byte == b'='
-        || byte == b'-'
+    b"{}(),;=-".iter().any(|mark| *mark == byte)
 }
 
 // How many blanks stand at the front.
@@ -122,7 +120,7 @@ fn token_len(bytes: &[u8]) -> usize
 #[tactic(auto, unfolding(crate::specs::TokenReading::token_at))]
 pub fn token_at(text: &[u8], at: usize) -> Result<(usize, &[u8], usize), CodeFault>
     requires { at ≤ length text.now }
-    ensures gives { Gives (λ t. (t.0, t.1.now, t.2)) result (token_at text.now at) }
+    ensures gives { Gives is_memory (λ t. (t.0, t.1.now, t.2)) result (token_at text.now at) }
     ensures within { IfOk result (λ t. t.2 ≤ length text.now) }
 {
     let start = at + blank_len(&text[at..]);
@@ -135,10 +133,10 @@ pub fn token_at(text: &[u8], at: usize) -> Result<(usize, &[u8], usize), CodeFau
 }
 
 // The place after this token.
-#[tactic(auto, unfolding(crate::specs::TokenReading::expect_at, crate::specs::TokenReading::after_step))]
+#[tactic(auto, unfolding(crate::specs::TokenReading::expect_at))]
 pub fn expect_at(text: &[u8], at: usize, word: &[u8]) -> Result<usize, CodeFault>
     requires { at ≤ length text.now }
-    ensures gives { Gives (λ n. n) result (expect_at word.now text.now at) }
+    ensures gives { Gives is_memory (λ n. n) result (expect_at word.now text.now at) }
     ensures within { IfOk result (λ n. n ≤ length text.now) }
 {
     let (start, found, end) = token_at(text, at)?;
@@ -150,10 +148,10 @@ pub fn expect_at(text: &[u8], at: usize, word: &[u8]) -> Result<usize, CodeFault
 }
 
 // The place after these two tokens.
-#[tactic(auto, unfolding(crate::specs::TokenReading::pair_at, crate::specs::TokenReading::after_step))]
+#[tactic(auto, unfolding(crate::specs::TokenReading::pair_at))]
 pub fn pair_at(text: &[u8], at: usize, first: &[u8], second: &[u8]) -> Result<usize, CodeFault>
     requires { at ≤ length text.now }
-    ensures gives { Gives (λ n. n) result (pair_at first.now second.now text.now at) }
+    ensures gives { Gives is_memory (λ n. n) result (pair_at first.now second.now text.now at) }
     ensures within { IfOk result (λ n. n ≤ length text.now) }
 {
     let middle = expect_at(text, at, first)?;
@@ -179,11 +177,11 @@ fn front_fault(bytes: &[u8]) -> CodeFault
 // The place after the first line.
 #[tactic(auto, unfolding(crate::specs::TokenReading::first_line_at))]
 pub fn first_line_at(bytes: &[u8]) -> Result<usize, CodeFault>
-    ensures gives { Gives (λ n. n) result (first_line_at bytes.now) }
+    ensures gives { Gives is_memory (λ n. n) result (first_line_at bytes.now) }
     ensures within { IfOk result (λ n. n ≤ length bytes.now) }
 {
-    if bytes.starts_with(b"#include \"fixif.h\"\n") {
-        Ok(19)
+    if bytes.starts_with(FIRST_LINE) {
+        Ok(FIRST_LINE.len())
     } else {
         Err(front_fault(bytes))
     }
@@ -209,10 +207,10 @@ pub fn begins_with_letter(word: &[u8]) -> bool
 }
 
 // A number below 2^63, and the place after it.
-#[tactic(auto, unfolding(crate::specs::TokenReading::number_at, crate::specs::TokenReading::after_step))]
+#[tactic(auto, unfolding(crate::specs::TokenReading::number_at))]
 pub fn number_at(text: &[u8], at: usize) -> Result<(u64, usize), CodeFault>
     requires { at ≤ length text.now }
-    ensures gives { Gives (λ n. n) result (number_at text.now at) }
+    ensures gives { Gives is_memory (λ n. n) result (number_at text.now at) }
     ensures within { IfOk result (λ n. (n.0 < 2 ^ 63) × (n.1 ≤ length text.now)) }
 {
     let (start, word, end) = token_at(text, at)?;
@@ -226,7 +224,7 @@ pub fn number_at(text: &[u8], at: usize) -> Result<(u64, usize), CodeFault>
 }
 
 // A number from low to high, and the place after it.
-#[tactic(auto, unfolding(crate::specs::TokenReading::ranged_at, crate::specs::TokenReading::after_step))]
+#[tactic(auto, unfolding(crate::specs::TokenReading::ranged_at))]
 fn ranged_at(
     text: &[u8],
     at: usize,
@@ -235,7 +233,7 @@ fn ranged_at(
     high: u8,
 ) -> Result<(u8, usize), CodeFault>
     requires { at ≤ length text.now }
-    ensures gives { Gives (λ n. n) result (ranged_at what low high text.now at) }
+    ensures gives { Gives is_memory (λ n. n) result (ranged_at what low high text.now at) }
     ensures within { IfOk result (λ n. (low ≤ n.0) × (n.0 ≤ high) × (n.1 ≤ length text.now)) }
 {
     let (number, end) = number_at(text, at)?;
@@ -246,7 +244,7 @@ fn ranged_at(
 }
 
 // A number from low to high behind a comma, and the place after it.
-#[tactic(auto, unfolding(crate::specs::TokenReading::next_at, crate::specs::TokenReading::after_step))]
+#[tactic(auto, unfolding(crate::specs::TokenReading::next_at))]
 pub fn next_at(
     text: &[u8],
     at: usize,
@@ -255,7 +253,7 @@ pub fn next_at(
     high: u8,
 ) -> Result<(u8, usize), CodeFault>
     requires { at ≤ length text.now }
-    ensures gives { Gives (λ n. n) result (next_at what low high text.now at) }
+    ensures gives { Gives is_memory (λ n. n) result (next_at what low high text.now at) }
     ensures within { IfOk result (λ n. (low ≤ n.0) × (n.0 ≤ high) × (n.1 ≤ length text.now)) }
 {
     let at = expect_at(text, at, b",")?;
@@ -276,11 +274,11 @@ fn writes_digit(due: u8, digits: &[u8]) -> bool
 }
 
 // The place after the number that is due.
-#[tactic(auto, unfolding(crate::specs::TokenReading::index_at, crate::specs::TokenReading::after_step))]
+#[tactic(auto, unfolding(crate::specs::TokenReading::index_at))]
 pub fn index_at(text: &[u8], at: usize, due: u8) -> Result<usize, CodeFault>
     requires place { at ≤ length text.now }
     requires digit { due < 10 }
-    ensures gives { Gives (λ n. n) result (index_at due text.now at) }
+    ensures gives { Gives is_memory (λ n. n) result (index_at due text.now at) }
     ensures within { IfOk result (λ n. n ≤ length text.now) }
 {
     let (start, word, end) = token_at(text, at)?;
@@ -316,17 +314,17 @@ pub fn name_number(word: &[u8], letter: u8, limit: u8) -> Option<u8>
 }
 
 // The place after the name that is due.
-#[tactic(auto, unfolding(crate::specs::TokenReading::due_at, crate::specs::TokenReading::after_step))]
+#[tactic(auto, unfolding(crate::specs::TokenReading::due_at))]
 pub fn due_at(text: &[u8], at: usize, letter: u8, number: u8) -> Result<usize, CodeFault>
     requires { at ≤ length text.now }
-    ensures gives { Gives (λ n. n) result (due_at letter number text.now at) }
+    ensures gives { Gives is_memory (λ n. n) result (due_at letter number text.now at) }
     ensures within { IfOk result (λ n. n ≤ length text.now) }
 {
     let (start, word, end) = token_at(text, at)?;
     if !begins_with_letter(word) {
         return Err(CodeFault::Unexpected(start));
     }
-    match name_number(word, letter, 40) {
+    match name_number(word, letter, CODE_ROWS as u8) {
         Some(found) if found == number => Ok(end),
         _ => Err(CodeFault::Name(start)),
     }

@@ -7,6 +7,7 @@ ghost use Rattle.fx_text.specs.Reading.{code_in};
 ghost use Rattle.fx_text.specs.Grammar.{Spells, first_line};
 ghost use Rattle.fx_text.specs.Writing.{code_text, head_line, input_line, input_lines, constant_line, source_text, term_line, term_lines, store_line, row_lines, rows_lines, output_line, output_lines, keep_line, keep_lines};
 
+use crate::token::FIRST_LINE;
 use fx_code::{CodeTerm, Program, Read, programs_fit};
 use std::alloc::{AllocError, Global};
 
@@ -153,7 +154,7 @@ fn put_keeps(alloc: Global, out: &mut Vec<u8>, rows: usize) -> Result<(), AllocE
 fn code_text(alloc: Global, program: &Program) -> Result<Vec<u8>, AllocError>
     ensures { IfOk result (λ v. v.items ≡ code_text program.now) }
 {
-    let mut out = Vec::from_slice(alloc, b"#include \"fixif.h\"\n")?;
+    let mut out = Vec::from_slice(alloc, FIRST_LINE)?;
     let line = head_line(alloc, program)?;
     put(&mut out, &line)?;
     put_inputs(alloc, &mut out, program)?;

@@ -1,6 +1,6 @@
 use Rattle.std.proofs.Common.{rules}
 use Rattle.fx_text.specs.Reading.{row_more}
-use Rattle.fx_text.proofs.Loops.{ends, goes_on, is_done}
+use Rattle.fx_text.proofs.RepeatedSteps.{ends, goes_on, is_done}
 use Rattle.fx_text.proofs.reader.rows_at.Goals as goal
 
 pub returns-in_err-at-clause-gives : goal.returns-in_err-at-clause-gives

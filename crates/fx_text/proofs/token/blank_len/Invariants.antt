@@ -1,5 +1,5 @@
 use Rattle.std.proofs.Common.{◌≡◌, ◌+◌, drop}
-use Rattle.fx_text.specs.Tokens.{is_blank}
+use Rattle.fx_nums.specs.Signs.{is_blank}
 use Rattle.fx_text.specs.TokenReading.{front_len}
 use Rattle.fx_text.proofs.token.blank_len.Given as goal
 
