@@ -3,6 +3,7 @@ use Rattle.std.proofs.Common.{◌≡◌, ℕ, zero, suc, ◌+◌, ◌*◌, ◌�
 use Rattle.std.proofs.lemmas.List.{length-map}
 use Rattle.fx_nums.specs.Fraction.{Fraction, minus}
 use Rattle.fx_eqs.specs.Textbook.{backward, backward_rows, forward_rows, lattice_terms, matrix_rows, over_lags, over_sources, recursion, sections, ss_terms, tf_terms}
+use Rattle.fx_eqs.specs.declared.limits.TheConstants.{PORTS, STATES}
 use Rattle.fx_eqs.specs.declared.term.Source.{Source}
 use Rattle.fx_eqs.specs.declared.term.Source.TheVariants.{Row, In}
 use Rattle.fx_eqs.proofs.Parts.{length-over_lags, length-over_sources}
@@ -32,7 +33,7 @@ sections_count (suc count) row from cs =
     let w = sections_count count (row + 1) (Row row) (drop 6 cs) in
     omega arith
 
-rows_count : (count row n m : ℕ) (x u : List Fraction) → n ≤ 16 → m ≤ 4 → length (matrix_rows count row n m x u) ≤ 20 * count
+rows_count : (count row n m : ℕ) (x u : List Fraction) → n ≤ STATES → m ≤ PORTS → length (matrix_rows count row n m x u) ≤ (STATES + PORTS) * count
 rows_count zero row n m x u p q = omega arith
 rows_count (suc count) row n m x u p q =
     let a = over_sources row (λ j. Row j) 1 0 (take n x) in
@@ -47,7 +48,7 @@ rows_count (suc count) row n m x u p q =
     let i = rows_count count (row + 1) n m (drop n x) (drop m u) p q in
     omega arith
 
-pub space_count : (n m p : ℕ) (A B C D : List Fraction) → n ≤ 16 → m ≤ 4 → length (ss_terms n m p A B C D) ≤ 20 * n + 20 * p
+pub space_count : (n m p : ℕ) (A B C D : List Fraction) → n ≤ STATES → m ≤ PORTS → length (ss_terms n m p A B C D) ≤ (STATES + PORTS) * n + (STATES + PORTS) * p
 space_count n m p A B C D s t =
     let whole = length-append (matrix_rows n 0 n m A B) (matrix_rows p n n m C D) in
     let x = rows_count n 0 n m A B s t in

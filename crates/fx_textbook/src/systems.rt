@@ -8,8 +8,8 @@ ghost use Rattle.fx_textbook.specs.Shapes.{SpaceFits};
 
 use crate::terms::{Space, cascade_terms, ladder_terms, space_terms, transfer_terms};
 use fx_eqs::{
-    Eqs, EqsFault, Term, cascades_have_no_fault, lattices_have_no_fault,
-    state_spaces_have_no_fault, transfer_functions_have_no_fault,
+    COEFFICIENTS, Eqs, EqsFault, PORTS, REFLECTIONS, SECTIONS, Term, cascades_have_no_fault,
+    lattices_have_no_fault, state_spaces_have_no_fault, transfer_functions_have_no_fault,
 };
 use fx_nums::Frac;
 use std::alloc::{AllocError, Global};
@@ -26,9 +26,9 @@ fn system(
     requires rows { rows ≤ 256 }
     requires terms { length terms.now < 2 ^ 32 }
     requires inputs_low { 1 ≤ inputs }
-    requires inputs_high { inputs ≤ 4 }
+    requires inputs_high { inputs ≤ PORTS }
     requires outputs_low { 1 ≤ length outputs.now }
-    requires outputs_high { length outputs.now ≤ 4 }
+    requires outputs_high { length outputs.now ≤ PORTS }
     requires outputs_below { All (λ o. o < rows) outputs.now }
     requires no_fault { eqs_fault rows inputs terms.now ≡ None }
     ensures { IfOk result (λ s. s ≡ record { rows = rows; inputs = inputs; terms = kept terms.now; outputs = outputs.now }) }
@@ -40,11 +40,11 @@ fn system(
     }
 }
 
-/// The equations of a transfer function: numerator and denominator of at most 13 coefficients each, the denominator's
-/// first being 1. Its error is want of memory.
+/// The equations of a transfer function: numerator and denominator of at most `COEFFICIENTS` coefficients each, the
+/// denominator's first being 1. Its error is want of memory.
 pub fn transfer_system(alloc: Global, b: &[Frac], a: &[Frac]) -> Result<Eqs, AllocError>
-    requires numerator { length b.now ≤ 13 }
-    requires denominator { length a.now ≤ 13 }
+    requires numerator { length b.now ≤ COEFFICIENTS }
+    requires denominator { length a.now ≤ COEFFICIENTS }
     ensures { IfOk result (λ s. s ≡ tf_equations b.now a.now) }
 {
     let terms = transfer_terms(alloc, b, a)?;
@@ -52,11 +52,11 @@ pub fn transfer_system(alloc: Global, b: &[Frac], a: &[Frac]) -> Result<Eqs, All
     system(alloc, 1, 1, &terms, &[0])
 }
 
-/// The equations of one to eight second-order sections of six coefficients each, the fourth being 1. Its error is want
+/// The equations of one to `SECTIONS` second-order sections of six coefficients each, the fourth being 1. Its error is want
 /// of memory.
 pub fn cascade_system(alloc: Global, sections: &[Frac]) -> Result<Eqs, AllocError>
     requires low { 6 ≤ length sections.now }
-    requires high { length sections.now ≤ 48 }
+    requires high { length sections.now ≤ 6 * SECTIONS }
     requires whole { length sections.now ≡ 6 * (length sections.now / 6) }
     ensures { IfOk result (λ s. s ≡ sos_equations sections.now) }
 {
@@ -92,9 +92,9 @@ pub fn space_system(alloc: Global, space: &Space) -> Result<Eqs, AllocError>
     system(alloc, space.n + space.p, space.m, &terms, &outputs)
 }
 
-/// The equations of a lattice of up to 11 reflection coefficients and one tap more. Its error is want of memory.
+/// The equations of a lattice of up to `REFLECTIONS` reflection coefficients and one tap more. Its error is want of memory.
 pub fn ladder_system(alloc: Global, k: &[Frac], v: &[Frac]) -> Result<Eqs, AllocError>
-    requires order { length k.now ≤ 11 }
+    requires order { length k.now ≤ REFLECTIONS }
     requires taps { length v.now ≡ length k.now + 1 }
     ensures { IfOk result (λ s. s ≡ lattice_equations k.now v.now) }
 {

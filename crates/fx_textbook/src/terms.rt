@@ -6,7 +6,7 @@ ghost use Rattle.fx_eqs.specs.Textbook.{backward, backward_rows, forward, forwar
 ghost use Rattle.fx_eqs.specs.declared.term.Source.TheVariants.{Row, In};
 ghost use Rattle.fx_textbook.specs.Shapes.{SpaceFits};
 
-use fx_eqs::{Source, Term};
+use fx_eqs::{COEFFICIENTS, PORTS, REFLECTIONS, SECTIONS, STATES, Source, Term};
 use fx_nums::Frac;
 use std::alloc::{AllocError, Global};
 
@@ -69,8 +69,8 @@ fn recursion(
     b: &[Frac],
     a: &[Frac],
 ) -> Result<(), AllocError>
-    requires numerator { length b.now ≤ 13 }
-    requires denominator { length a.now ≤ 13 }
+    requires numerator { length b.now ≤ COEFFICIENTS }
+    requires denominator { length a.now ≤ COEFFICIENTS }
     ensures { OnOk result (terms.new.items ≡ terms.old.items ++ recursion row from b.now a.now) }
 {
     over_lags(terms, row, from, 0, b)?;
@@ -83,8 +83,8 @@ fn recursion(
 /// The terms of a transfer function.
 #[tactic(auto, using(crate::proofs::TermCounts::transfer_count))]
 pub fn transfer_terms(alloc: Global, b: &[Frac], a: &[Frac]) -> Result<Vec<Term>, AllocError>
-    requires numerator { length b.now ≤ 13 }
-    requires denominator { length a.now ≤ 13 }
+    requires numerator { length b.now ≤ COEFFICIENTS }
+    requires denominator { length a.now ≤ COEFFICIENTS }
     ensures value { IfOk result (λ v. v.items ≡ tf_terms b.now a.now) }
     ensures few { IfOk result (λ v. length v.items < 2 ^ 32) }
 {
@@ -101,7 +101,7 @@ fn sections(
     from: Source,
     coefficients: &[Frac],
 ) -> Result<(), AllocError>
-    requires rows { row + count ≤ 8 }
+    requires rows { row + count ≤ SECTIONS }
     requires whole { length coefficients.now ≡ 6 * count }
     ensures { OnOk result (terms.new.items ≡ terms.old.items ++ sections count row from coefficients.now) }
 {
@@ -121,7 +121,7 @@ pub fn cascade_terms(
     count: usize,
     coefficients: &[Frac],
 ) -> Result<Vec<Term>, AllocError>
-    requires few { count ≤ 8 }
+    requires few { count ≤ SECTIONS }
     requires whole { length coefficients.now ≡ 6 * count }
     ensures value { IfOk result (λ v. v.items ≡ sections count 0 (In 0) coefficients.now) }
     ensures few { IfOk result (λ v. length v.items < 2 ^ 32) }
@@ -133,7 +133,7 @@ pub fn cascade_terms(
 
 // A row over the states of the moment before.
 fn over_states(terms: &mut Vec<Term>, row: u8, coefficients: &[Frac]) -> Result<(), AllocError>
-    requires { length coefficients.now ≤ 16 }
+    requires { length coefficients.now ≤ STATES }
     ensures { OnOk result (terms.new.items ≡ terms.old.items ++ over_sources row (λ j. Row j) 1 0 coefficients.now) }
 {
     let mut state = 0u8;
@@ -146,7 +146,7 @@ fn over_states(terms: &mut Vec<Term>, row: u8, coefficients: &[Frac]) -> Result<
 
 // A row over the inputs.
 fn over_inputs(terms: &mut Vec<Term>, row: u8, coefficients: &[Frac]) -> Result<(), AllocError>
-    requires { length coefficients.now ≤ 16 }
+    requires { length coefficients.now ≤ PORTS }
     ensures { OnOk result (terms.new.items ≡ terms.old.items ++ over_sources row (λ j. In j) 0 0 coefficients.now) }
 {
     let mut input = 0u8;
@@ -167,9 +167,9 @@ fn matrix_rows(
     x: &[Frac],
     u: &[Frac],
 ) -> Result<(), AllocError>
-    requires rows { row + count ≤ 32 }
-    requires states { n ≤ 16 }
-    requires inputs { m ≤ 4 }
+    requires rows { row + count ≤ STATES + PORTS }
+    requires states { n ≤ STATES }
+    requires inputs { m ≤ PORTS }
     requires over_states { length x.now ≡ count * n }
     requires over_inputs { length u.now ≡ count * m }
     ensures { OnOk result (terms.new.items ≡ terms.old.items ++ matrix_rows count row n m x.now u.now) }
@@ -212,7 +212,7 @@ pub fn space_terms(alloc: Global, space: &Space) -> Result<Vec<Term>, AllocError
 
 // What stands before reflection i: the input, or a row.
 fn forward(order: usize, i: usize) -> Source
-    requires { (i ≤ order) × (order ≤ 11) }
+    requires { (i ≤ order) × (order ≤ REFLECTIONS) }
     ensures { result ≡ forward order i }
 {
     if i == order {
@@ -224,7 +224,7 @@ fn forward(order: usize, i: usize) -> Source
 
 // What comes back from reflection i: a row, or the input where there is no reflection.
 fn backward(order: usize, i: usize) -> Source
-    requires { (i ≤ order) × (order ≤ 11) }
+    requires { (i ≤ order) × (order ≤ REFLECTIONS) }
     ensures { result ≡ backward order i }
 {
     if order == 0 {
@@ -241,7 +241,7 @@ fn forward_rows(
     i: usize,
     reflections: &[Frac],
 ) -> Result<(), AllocError>
-    requires { (i + length reflections.now ≤ order) × (order ≤ 11) }
+    requires { (i + length reflections.now ≤ order) × (order ≤ REFLECTIONS) }
     ensures { OnOk result (terms.new.items ≡ terms.old.items ++ forward_rows order i reflections.now) }
 {
     match reflections {
@@ -262,7 +262,7 @@ fn backward_rows(
     i: usize,
     reflections: &[Frac],
 ) -> Result<(), AllocError>
-    requires { (i + length reflections.now ≤ order) × (order ≤ 11) }
+    requires { (i + length reflections.now ≤ order) × (order ≤ REFLECTIONS) }
     ensures { OnOk result (terms.new.items ≡ terms.old.items ++ backward_rows order i reflections.now) }
 {
     match reflections {
@@ -283,7 +283,7 @@ fn over_taps(
     first: usize,
     taps: &[Frac],
 ) -> Result<(), AllocError>
-    requires { (first + length taps.now ≤ order + 1) × (order ≤ 11) }
+    requires { (first + length taps.now ≤ order + 1) × (order ≤ REFLECTIONS) }
     ensures { OnOk result (terms.new.items ≡ terms.old.items ++ over_sources (2 * order) (backward order) 0 first taps.now) }
 {
     let mut i = first;
@@ -297,7 +297,7 @@ fn over_taps(
 /// The terms of a lattice with these reflection coefficients and taps.
 #[tactic(auto, using(crate::proofs::TermCounts::ladder_count))]
 pub fn ladder_terms(alloc: Global, k: &[Frac], v: &[Frac]) -> Result<Vec<Term>, AllocError>
-    requires order { length k.now ≤ 11 }
+    requires order { length k.now ≤ REFLECTIONS }
     requires taps { length v.now ≡ length k.now + 1 }
     ensures value { IfOk result (λ t. t.items ≡ lattice_terms k.now v.now) }
     ensures few { IfOk result (λ t. length t.items < 2 ^ 32) }
