@@ -12,6 +12,7 @@ use Rattle.fx_math.specs.Words.{WidthFits, is_accumulator}
 use Rattle.fx_math.specs.declared.words.TheConstants.{LEAST_WIDTH, GREATEST_WIDTH}
 use Rattle.fx_math.proofs.Faults.{if_none, none_if, or_none}
 use Rattle.fx_math.proofs.Orders.{not_le}
+use Rattle.fx_eqs.specs.declared.limits.TheConstants.{PORTS}
 use Rattle.fx_code.specs.Code.{Row, Code, weight}
 use Rattle.fx_code.specs.Fits.{TermFits, RowFits, SourceFits, ReadsFit, CodeFits}
 use Rattle.fx_code.specs.Limits.{is_outside, width_fault, start_fault, same_source, source_fault, term_fault, terms_fault, term_count, row_fault, output_fault}
@@ -105,7 +106,7 @@ pub start_fits : (accumulator : ℕ) (inputs : List ℕ) → start_fault accumul
 start_fits accumulator inputs e =
     let first = if_none _ _ _ e in
     let count = if_none _ _ _ first.1 in
-    let within = inside_from 1 4 (length inputs) count.0 in
+    let within = inside_from 1 PORTS (length inputs) count.0 in
     let h : not (eqb 16 accumulator || (eqb 32 accumulator || (eqb 64 accumulator || false))) ≡ false = first.0 in
     record {
       accumulator = grind (arith, nat_tests, h);
@@ -171,7 +172,7 @@ pub output_added : (p : Code) (i : ℕ) → CodeFits p → output_fault p i ≡ 
 output_added p i fits e =
     let count = if_none _ _ _ e in
     let row = if_none _ _ _ count.1 in
-    let few : length p.outputs + 1 ≤ 4 = ltb-false 4 (length p.outputs + 1) count.0 in
+    let few : length p.outputs + 1 ≤ PORTS = ltb-false PORTS (length p.outputs + 1) count.0 in
     let longer = length-append p.outputs (i ∷ []) in
     record {
       accumulator = fits.accumulator;
@@ -207,7 +208,7 @@ pub start_passes : (p : Code) → CodeFits p → start_fault p.accumulator p.inp
 start_passes p fits =
     let bits = fits.accumulator in
     let known : not (is_accumulator p.accumulator) ≡ false = not_false _ bits in
-    none_if _ _ _ known (none_if _ _ _ (not_outside 1 4 (length p.inputs) fits.inputs_low fits.inputs_high) (widths_pass p.inputs fits.input_widths))
+    none_if _ _ _ known (none_if _ _ _ (not_outside 1 PORTS (length p.inputs) fits.inputs_low fits.inputs_high) (widths_pass p.inputs fits.input_widths))
 
 source_passes : (n inputs : ℕ) (from : Read) (rest : Option ProgramFault) → n ≤ CODE_ROWS → SourceFits n inputs from → rest ≡ None → source_fault n inputs from rest ≡ None
 source_passes n inputs (Now i) rest few h r = none_if _ _ _ (lt-leb CODE_ROWS i (omega arith)) (none_if _ _ _ (lt-leb n i h) r)
@@ -264,5 +265,5 @@ row_passes p row few wide fits reads terms =
     rw (terms_pass n (length p.inputs) row.shift [] row.terms (omega arith) fits.terms reads.sources (distinct_once row.terms reads.once)) (
     none_if _ _ _ (le-ltb CODE_TERMS _ terms) refl))))
 
-pub output_passes : (p : Code) (i : ℕ) → length p.outputs < 4 → i < length p.rows → output_fault p i ≡ None
-output_passes p i few below = none_if _ _ _ (le-ltb 4 (length p.outputs + 1) (omega arith)) (none_if _ _ _ (lt-leb (length p.rows) i below) refl)
+pub output_passes : (p : Code) (i : ℕ) → length p.outputs < PORTS → i < length p.rows → output_fault p i ≡ None
+output_passes p i few below = none_if _ _ _ (le-ltb PORTS (length p.outputs + 1) (omega arith)) (none_if _ _ _ (lt-leb (length p.rows) i below) refl)

@@ -14,10 +14,9 @@ use Rattle.fx_math.specs.Unroll.{before, last, so_far}
 use Rattle.fx_math.proofs.Unroll.{fill_kept, last_is_before}
 use Rattle.fx_math.proofs.Division.{floor_below, floor_above}
 use Rattle.fx_math.proofs.Ring.{mul-add, mul_comm, mul_assoc, mul-neg, add-mul, neg-mul}
-use Rattle.fx_nums.specs.Fraction.{over, IsWholeOver}
+use Rattle.fx_nums.specs.Fraction.{over, zero_fraction, IsWholeOver}
 use Rattle.fx_net.specs.Net.{Net}
 use Rattle.fx_net.specs.Rows.{reads_now, reads_old, reads_input, coefficient, row_of}
-use Rattle.fx_mat.specs.Entries.{zero_fraction}
 use Rattle.fx_net.specs.Run.{IsDenominator, row_time, row_sum}
 use Rattle.fx_net.proofs.Carried.{of_now, of_old, of_input, right, gather, one_power, powers_to}
 use Rattle.fx_net.proofs.Coefficients.{value_at, net_sum}

@@ -6,9 +6,8 @@ use Rattle.std.specs.List.{AllByRecursion, IsDistinct}
 use Rattle.std.proofs.lemmas.Int.{ints}
 use Rattle.std.proofs.lemmas.Bool.{eq-eqb, eqb-true, cond-false}
 use Rattle.std.proofs.lemmas.Map.Keys.{IsDistinct-head, IsDistinct-tail}
-use Rattle.fx_nums.specs.Fraction.{Fraction, over, IsWholeOver}
+use Rattle.fx_nums.specs.Fraction.{Fraction, over, zero_fraction, IsWholeOver}
 use Rattle.fx_nums.specs.declared.fraction.Den.TheVariants.{Two}
-use Rattle.fx_mat.specs.Entries.{zero_fraction}
 use Rattle.fx_eqs.specs.Expanded.{NetRead, NetTerm}
 use Rattle.fx_net.specs.Net.{plain}
 use Rattle.fx_net.specs.Rows.{coefficient_or, ReadFits}

@@ -10,6 +10,7 @@ use Rattle.fx_net.specs.Laws.{RowsStand}
 use Rattle.fx_net.specs.Net.{Net}
 use Rattle.fx_net.specs.Rows.{ReadFits, is_within, put_each, put_rows, AreEmpty, HoldsRows}
 use Rattle.fx_net.proofs.Filling.{filled}
+use Rattle.fx_eqs.specs.declared.limits.TheConstants.{PORTS}
 use Rattle.fx_code.specs.Code.{BareRow, Row, Code, row_at, bare, weight, OldIsThere, IsWhole}
 use Rattle.fx_code.specs.Fits.{TermFits, SourceFits, CodeFits}
 use Rattle.fx_code.specs.Laws.{BareRowsStand, CodeStands}
@@ -26,7 +27,7 @@ fraction_fits t shift w e h f =
     let scaled : unsigned_abs (weight t) < 2 ^ 24 * 2 ^ shift = omega (arith, f.scaled, pow-add 2 24 shift) in
     rw e (record { den_fits = h; num_fits = f.product; value_fits = scaled })
 
-source_fits : (n at i inputs rows : ℕ) (from : Read) → SourceFits i inputs from → OldIsThere rows from → inputs ≤ 4 → at + rows ≤ n → ReadFits n at i (net_read from)
+source_fits : (n at i inputs rows : ℕ) (from : Read) → SourceFits i inputs from → OldIsThere rows from → inputs ≤ PORTS → at + rows ≤ n → ReadFits n at i (net_read from)
 source_fits n at i inputs rows (Now j) source there few room = source
 source_fits n at i inputs rows (Old j) source there few room = omega arith
 source_fits n at i inputs rows (In j) source there few room = omega arith

@@ -2,6 +2,7 @@
 use Rattle.std.specs.Prelude.{ℕ, ◌+◌, ◌^◌, ◌<◌, ◌≤◌, IsTrue, unsigned_abs, length, All}
 use Rattle.std.specs.List.{IsDistinct}
 use Rattle.fx_math.specs.Words.{WidthFits, is_accumulator}
+use Rattle.fx_eqs.specs.declared.limits.TheConstants.{PORTS}
 use Rattle.fx_code.specs.Code.{Row, Code, row_at, weight}
 use Rattle.fx_code.specs.Limits.{same_source, term_count}
 use Rattle.fx_code.specs.declared.limits.TheConstants.{CODE_ROWS, CODE_TERMS, LONGEST_SHIFT, COEFFICIENT_BITS, PRODUCT_BITS}
@@ -42,11 +43,11 @@ pub record CodeFits (p : Code) : Type 0 where
   pub accumulator_low : 16 ≤ p.accumulator
   pub accumulator_high : p.accumulator ≤ 64
   pub inputs_low : 1 ≤ length p.inputs
-  pub inputs_high : length p.inputs ≤ 4
+  pub inputs_high : length p.inputs ≤ PORTS
   pub input_widths : All WidthFits p.inputs
   pub rows_high : length p.rows ≤ CODE_ROWS
   pub rows : All (RowFits p.accumulator) p.rows
   pub reads : (n : ℕ) → n < length p.rows → ReadsFit n (length p.inputs) (row_at p n)
   pub terms : term_count p.rows ≤ CODE_TERMS
-  pub outputs_high : length p.outputs ≤ 4
+  pub outputs_high : length p.outputs ≤ PORTS
   pub outputs : All (λ row. row < length p.rows) p.outputs

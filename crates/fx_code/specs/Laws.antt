@@ -4,6 +4,7 @@ use Rattle.fx_math.specs.Division.{floor_div}
 use Rattle.fx_math.specs.Unroll.{before}
 use Rattle.fx_net.specs.Net.{Net}
 use Rattle.fx_net.specs.Run.{IsDenominator, row_sum, row_time}
+use Rattle.fx_eqs.specs.declared.limits.TheConstants.{PORTS}
 use Rattle.fx_code.specs.Code.{BareRow, Row, Code, row_at, IsWhole}
 use Rattle.fx_code.specs.Fits.{RowFits, ReadsFit, CodeFits}
 use Rattle.fx_code.specs.Inputs.{word_at}
@@ -80,4 +81,4 @@ FittingRows =
 
 -- nor has an output that is a row
 abbrev pub FittingOutputs : Type 0
-FittingOutputs = (p : Code) (row : ℕ) → length p.outputs < 4 → row < length p.rows → output_fault p row ≡ None
+FittingOutputs = (p : Code) (row : ℕ) → length p.outputs < PORTS → row < length p.rows → output_fault p row ≡ None

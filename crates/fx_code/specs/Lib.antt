@@ -2,6 +2,7 @@ pub mod Code
 pub mod Fits
 pub mod Inputs
 pub mod Inside
+pub mod Joint
 pub mod Laws
 pub mod Limits
 pub mod NetRows

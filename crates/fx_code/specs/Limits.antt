@@ -5,6 +5,7 @@ use Rattle.std.specs.List.{list_any}
 use Rattle.fx_math.specs.Faults.{fault_if}
 use Rattle.fx_math.specs.Words.{is_accumulator}
 use Rattle.fx_math.specs.declared.words.TheConstants.{LEAST_WIDTH, GREATEST_WIDTH}
+use Rattle.fx_eqs.specs.declared.limits.TheConstants.{PORTS}
 use Rattle.fx_code.specs.Code.{Row, Code, weight}
 use Rattle.fx_code.specs.declared.limits.TheConstants.{CODE_ROWS, CODE_TERMS, LONGEST_SHIFT, COEFFICIENT_BITS, PRODUCT_BITS}
 use Rattle.fx_code.specs.declared.term.CodeTerm.{CodeTerm}
@@ -27,7 +28,7 @@ width_fault (w ∷ ws) = fault_if (is_outside LEAST_WIDTH GREATEST_WIDTH w) (Lim
 abbrev pub start_fault : ℕ → List ℕ → Option ProgramFault
 start_fault accumulator inputs =
     fault_if (not (is_accumulator accumulator)) (Limit Accumulator (pos accumulator)) (
-    fault_if (is_outside 1 4 (length inputs)) (Limit Inputs (pos (length inputs))) (
+    fault_if (is_outside 1 PORTS (length inputs)) (Limit Inputs (pos (length inputs))) (
     width_fault inputs))
 
 -- ---- a row
@@ -78,7 +79,7 @@ row_fault p row =
 abbrev pub output_fault : Code → ℕ → Option ProgramFault
 output_fault p row =
     let n = length p.outputs + 1 in
-    fault_if (nat_lt 4 n) (Limit Outputs (pos n)) (
+    fault_if (nat_lt PORTS n) (Limit Outputs (pos n)) (
     fault_if (nat_le (length p.rows) row) (Limit OutputRow (pos row)) None)
 
 -- ---- an answer

@@ -4,6 +4,7 @@ ghost use Rattle.fx_code.specs.Limits.{source_fault, start_fault, term_fault, te
 use crate::fault::{LimitOf, ProgramFault};
 use crate::limits::{CODE_ROWS, COEFFICIENT_BITS, LONGEST_SHIFT, PRODUCT_BITS};
 use crate::term::{CodeTerm, Read, reads_source};
+use fx_eqs::PORTS;
 use fx_math::{GREATEST_WIDTH, LEAST_WIDTH, is_accumulator};
 
 // The first fault of a program's start.
@@ -13,7 +14,7 @@ pub fn start_fault(accumulator: u8, widths: &[u8]) -> Option<ProgramFault>
     if !is_accumulator(accumulator) {
         return Some(ProgramFault::Limit(LimitOf::Accumulator, i128::from(accumulator)));
     }
-    if widths.is_empty() || widths.len() > 4 {
+    if widths.is_empty() || widths.len() > PORTS {
         return Some(ProgramFault::Limit(LimitOf::Inputs, widths.len() as i128));
     }
     width_fault(widths)

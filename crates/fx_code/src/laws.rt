@@ -1,8 +1,10 @@
 ghost use Rattle.fx_code.specs.Laws.{BareRowsStand, CodeStands, EarlierInputs, ExactWords, FittingOutputs, FittingRows, FittingStarts, FlooredRowsRun, OutputsInOrder, WordsAreTheirStep, WordsRun};
+ghost use Rattle.fx_code.specs.Joint.{JointCommon, JointDenominator};
 
 use crate::program::{Program, programs_fit};
+use fx_eqs::common_divides_each;
 use fx_math::unrolled_is_its_step;
-use fx_net::rows_stand;
+use fx_net::{denominators_stay, rows_stand};
 
 /// A law with nothing to run: what keeps the limits is never refused, be it a start, a row or an output.
 #[tactic(auto, using(crate::proofs::Fitting::start_passes, crate::proofs::Fitting::row_passes, crate::proofs::Fitting::output_passes))]
@@ -44,6 +46,16 @@ pub fn code_stands()
     ensures code { CodeStands }
 {
     rows_stand();
+}
+
+/// A law with nothing to run: each denominator of a system's coefficients, shifted by the longest shift, is one of the net
+/// that has the rows of a program and, behind them, the expanded rows of the system. So the system's common one serves.
+pub fn joint_nets_have_a_denominator()
+    ensures each { JointDenominator }
+    ensures common { JointCommon }
+{
+    common_divides_each();
+    denominators_stay();
 }
 
 /// A law with nothing to run: in each net that holds the rows of a whole program, the words are a perturbed run of these

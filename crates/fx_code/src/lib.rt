@@ -13,8 +13,9 @@ mod tests;
 
 pub use fault::{LimitOf, ProgramFault};
 pub use laws::{
-    code_stands, exact_words_are_floored_sums, outputs_are_output_words, what_fits_has_no_fault,
-    words_are_a_run, words_are_their_step, words_read_no_later_inputs,
+    code_stands, exact_words_are_floored_sums, joint_nets_have_a_denominator,
+    outputs_are_output_words, what_fits_has_no_fault, words_are_a_run, words_are_their_step,
+    words_read_no_later_inputs,
 };
 pub use limits::{
     CODE_ROWS, CODE_TERMS, COEFFICIENT_BITS, LONGEST_SHIFT, PRODUCT_BITS, code_limits_are_these,

@@ -12,6 +12,7 @@ use crate::checks::{start_fault, terms_fault};
 use crate::fault::{LimitOf, ProgramFault};
 use crate::limits::{CODE_ROWS, CODE_TERMS, LONGEST_SHIFT};
 use crate::term::{CodeTerm, Read};
+use fx_eqs::PORTS;
 use fx_math::{GREATEST_WIDTH, LEAST_WIDTH};
 use std::alloc::{AllocError, Global};
 use std::marker::Model;
@@ -129,7 +130,7 @@ impl Program {
     fn output_fault(&self, row: u8) -> Option<ProgramFault>
         ensures { result ≡ output_fault self.now row }
     {
-        if self.outputs.len() >= 4 {
+        if self.outputs.len() >= PORTS {
             return Some(ProgramFault::Limit(LimitOf::Outputs, self.outputs.len() as i128 + 1));
         }
         if usize::from(row) >= self.rows.len() {
@@ -191,7 +192,7 @@ impl Program {
     pub fn inputs(&self) -> usize
         ensures value { result ≡ length self.now.inputs }
         ensures low { 1 ≤ result }
-        ensures high { result ≤ 4 }
+        ensures high { result ≤ PORTS }
     {
         self.inputs.len()
     }
@@ -277,7 +278,7 @@ impl Program {
     /// The rows that are put out, in the order of the outputs: at most 4, each below the count of rows.
     pub fn outputs(&self) -> &[u8]
         ensures value { result.now ≡ self.now.outputs }
-        ensures high { length result.now ≤ 4 }
+        ensures high { length result.now ≤ PORTS }
         ensures fits { All (λ row. row < length self.now.rows) result.now }
     {
         &self.outputs

@@ -12,6 +12,7 @@ use Rattle.std.proofs.lemmas.List.Elements.{All-map, All-weaker, All-tail}
 use Rattle.std.proofs.lemmas.List.Sums.{get_or-le-sum_by}
 use Rattle.fx_math.specs.Residue.{wrap}
 use Rattle.fx_machine.proofs.Bits.{wrap_small}
+use Rattle.fx_eqs.specs.declared.limits.TheConstants.{PORTS}
 use Rattle.fx_code.specs.Code.{Row, Code, row_at, bare, half_place, constant_of, weight}
 use Rattle.fx_code.specs.Fits.{RowFits, SourceFits, CodeFits}
 use Rattle.fx_code.specs.Limits.{term_count}
@@ -25,7 +26,7 @@ use Rattle.fx_code.specs.declared.term.Read.TheVariants.{Now, Old, In}
 
 -- ---- sources
 
-place_below : (n inputs : ℕ) (from : Read) → n ≤ CODE_ROWS → inputs ≤ 4 → SourceFits n inputs from → place_of from < WORD_COUNT
+place_below : (n inputs : ℕ) (from : Read) → n ≤ CODE_ROWS → inputs ≤ PORTS → SourceFits n inputs from → place_of from < WORD_COUNT
 place_below n inputs (Now i) a b h = omega arith
 place_below n inputs (Old i) a b h = omega arith
 place_below n inputs (In j) a b h = omega arith

@@ -8,6 +8,7 @@ use crate::places::{FIRST_INPUT, FIRST_OLD, WORD_COUNT};
 use crate::prepared::PreparedRow;
 use crate::sums::row_outcome;
 use fx_code::{CODE_ROWS, Program};
+use fx_eqs::PORTS;
 
 /// What went beyond its bits in one moment. Bit i tells of row i, and no further bit is set.
 #[derive(Clone, Copy, Debug, PartialEq, Eq)]
@@ -34,7 +35,7 @@ fn keep_rows(words: &mut [i64], rows: usize)
 // Takes the words of the inputs.
 fn take_inputs(words: &mut [i64], input: &[i64])
     requires count { length words.old ≡ WORD_COUNT }
-    requires few { length input.now ≤ 4 }
+    requires few { length input.now ≤ PORTS }
     ensures taken { (j : ℕ) → j < length input.now → word_in words.new (FIRST_INPUT + j) ≡ word_in input.now j }
     ensures others { (i : ℕ) → i < FIRST_INPUT → word_in words.new i ≡ word_in words.old i }
 {
@@ -47,7 +48,7 @@ fn take_inputs(words: &mut [i64], input: &[i64])
 pub fn begin(words: &mut [i64], rows: usize, input: &[i64])
     requires count { length words.old ≡ WORD_COUNT }
     requires rows { rows ≤ CODE_ROWS }
-    requires few { length input.now ≤ 4 }
+    requires few { length input.now ≤ PORTS }
     ensures { Begins words.old words.new rows input.now }
 {
     keep_rows(words, rows);
