@@ -1,7 +1,7 @@
+pub mod BetweenRecords
 pub mod Digits
-pub mod Earlier
 pub mod FieldLaws
-pub mod Fronts
-pub mod Midway
+pub mod LinesSoFar
 pub mod Moments
-pub mod Rest
+pub mod RecordsLeft
+pub mod WordsSoFar

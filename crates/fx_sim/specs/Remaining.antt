@@ -1,9 +1,9 @@
 -- The records that a reader of a text has left.
-use Rattle.std.specs.Prelude.{◌≡◌, ◌+◌, ℕ, List, [], length, false, Option, Some, IsSome}
+use Rattle.std.specs.Prelude.{◌≡◌, ◌+◌, ℕ, List, [], length, true, false, Option, Some, IsSome}
 use Rattle.std.specs.Option.{unwrap_or}
 use Rattle.std.proofs.Common.{Bor}
 use Rattle.csv.specs.Machine.{ends_at_end}
-use Rattle.csv.specs.Reading.{Ready, default_config, records_from, source_of}
+use Rattle.csv.specs.Reading.{Ready, default_config, is_flexible, records_from, source_of}
 use Rattle.csv.specs.declared.parser.State.{State}
 use Rattle.csv.specs.declared.reader.Reader.{Reader}
 use Rattle.csv.specs.declared.reader.Trim.TheVariants as trims
@@ -28,8 +28,9 @@ records_in s xs = records_from default_config (length xs + 1) s xs
 abbrev pub records_left : TextReader → List (List (List ℕ))
 records_left reader = records_in reader.state (bytes_left reader)
 
--- a reader set up as samples are read, which stands between two records
+-- a reader set up as samples are read, with records of any length, which stands between two records
 pub record Stands (reader : TextReader) : Type 0 where
+  pub flexible : is_flexible reader ≡ true
   pub config : reader.config ≡ default_config
   pub trim : reader.trim ≡ trims.None
   pub ready : Ready reader

@@ -1,5 +1,5 @@
 -- The numbers of samples, moment by moment, or their first fault.
-use Rattle.std.specs.Prelude.{◌≡◌, ℕ, ℤ, pos, neg_ℤ, ◌+◌, ◌-◌, ◌^◌, ◌==◌, ◌&&◌, Bool, List, [], ◌∷◌, length, Result, Ok, Err, if◌then◌else◌}
+use Rattle.std.specs.Prelude.{◌≡◌, ℕ, ℤ, pos, neg_ℤ, ◌+◌, ◌-◌, ◌^◌, ◌==◌, ◌&&◌, Bool, true, false, List, [], ◌∷◌, length, Result, Ok, Err, if◌then◌else◌}
 use Rattle.std.specs.Int.Signed.{le_z, lt_z}
 use Rattle.csv.specs.Reading.{default_config, records, strip_bom}
 use Rattle.fx_math.specs.Faults.{or_fault, ◌>>=◌}
@@ -7,15 +7,10 @@ use Rattle.fx_sim.specs.Fields.{field_value}
 use Rattle.fx_sim.specs.declared.fault.SampleFault.{SampleFault}
 use Rattle.fx_sim.specs.declared.fault.SampleFault.TheVariants.{Columns, Field, OutOfWord, NoMemory}
 
--- an answer that names this fault is right: it is the first, or memory was refused
-abbrev pub Fails : {Y : Type 0} → SampleFault → Result Y SampleFault → Type 0
-Fails NoMemory read = Unit {0}
-Fails fault read = read ≡ Err fault
-
--- an answer gives what is read, seen through a view, or its first fault
-abbrev pub Gives : {X Y : Type 0} → (X → Y) → Result X SampleFault → Result Y SampleFault → Type 0
-Gives view (Ok x) read = read ≡ Ok (view x)
-Gives view (Err fault) read = Fails fault read
+-- the one fault that may come at any time
+abbrev pub is_memory : SampleFault → Bool
+is_memory NoMemory = true
+is_memory _ = false
 
 -- a number of this many bits in two's complement
 abbrev pub is_word : ℕ → ℤ → Bool

@@ -2,7 +2,11 @@
 
 ghost use Rattle.std.specs.Prelude.{◌≡◌, ◌<◌, ◌^◌, IfSome, FitsSigned};
 ghost use Rattle.std.specs.Int.{w64};
-ghost use Rattle.fx_sim.specs.Fields.{field_value, is_blank, magnitude, skipped};
+ghost use Rattle.fx_nums.specs.Signs.{is_blank};
+ghost use Rattle.fx_sim.specs.Fields.{field_value, magnitude, skipped};
+
+/// The most digits of a field.
+pub const FIELD_DIGITS: usize = 18;
 
 fn is_blank(byte: u8) -> bool
     ensures { result ≡ is_blank byte }
@@ -23,8 +27,8 @@ fn skipped(bytes: &[u8]) -> &[u8]
     &[]
 }
 
-// The number of 1 to 18 digits with only blanks behind them.
-#[tactic(auto, unfolding(crate::specs::Fields::magnitude, crate::specs::Fields::skipped), using(crate::proofs::Digits::small_value, crate::proofs::Digits::grows))]
+// The number of at least one digit and not too many, with only blanks behind them.
+#[tactic(auto, unfolding(crate::specs::Fields::magnitude, crate::specs::Fields::skipped), using(crate::proofs::Digits::one_digit_left, crate::proofs::Digits::grows))]
 fn magnitude(bytes: &[u8]) -> Option<u64>
     ensures value { result ≡ magnitude 0 0 bytes.now }
     ensures small { IfSome result (λ n. n < 10 ^ 18) }
@@ -39,7 +43,7 @@ fn magnitude(bytes: &[u8]) -> Option<u64>
                 None
             };
         }
-        if count == 18 {
+        if count == FIELD_DIGITS {
             return None;
         }
         value = 10 * value + (*byte - b'0') as u64;
@@ -48,8 +52,8 @@ fn magnitude(bytes: &[u8]) -> Option<u64>
     if count > 0 { Some(value) } else { None }
 }
 
-/// The number of a field: blanks, perhaps a sign, 1 to 18 digits, and blanks.
-#[tactic(auto, unfolding(crate::specs::Fields::signed, crate::specs::Fields::magnitude))]
+/// The number of a field: blanks, perhaps a sign, 1 to `FIELD_DIGITS` digits, and blanks.
+#[tactic(auto, unfolding(crate::specs::Fields::number_in, crate::specs::Fields::magnitude))]
 pub fn field_value(field: &[u8]) -> Option<i64>
     ensures value { result ≡ field_value field.now }
     ensures fits { IfSome result (λ z. FitsSigned w64 z) }

@@ -4,17 +4,19 @@ ghost use Rattle.std.specs.Prelude.{[], slice_index_or, ◌≡◌, ◌≤◌, �
 ghost use Rattle.std.specs.Int.{w64};
 ghost use Rattle.csv.specs.Records.{fields_of};
 ghost use Rattle.fx_code.specs.Inputs.{IsMoment};
-ghost use Rattle.fx_sim.specs.Samples.{Fails, Gives, is_word, moment_in, word_in, words_in};
+ghost use Rattle.fx_math.specs.Answers.{Fails, Gives};
+ghost use Rattle.fx_sim.specs.Samples.{is_memory, is_word, moment_in, word_in, words_in};
 
 use crate::fault::SampleFault;
 use crate::field::field_value;
 use csv::ByteRecord;
 use fx_code::Program;
+use fx_math::GREATEST_WIDTH;
 
 // Whether a number is one of this many bits in two's complement.
 fn is_word(width: u8, number: i64) -> bool
     requires low { 1 ≤ width }
-    requires high { width ≤ 32 }
+    requires high { width ≤ GREATEST_WIDTH }
     ensures { result ≡ is_word width number }
 {
     let half = 1i64 << (width - 1);
@@ -25,8 +27,8 @@ fn is_word(width: u8, number: i64) -> bool
 #[tactic(auto, unfolding(crate::specs::Samples::word_in))]
 fn word_of(number: u64, column: usize, width: u8, field: &[u8]) -> Result<i64, SampleFault>
     requires low { 1 ≤ width }
-    requires high { width ≤ 32 }
-    ensures word { Gives (λ z. z) result (word_in number column width field.now) }
+    requires high { width ≤ GREATEST_WIDTH }
+    ensures word { Gives is_memory (λ z. z) result (word_in number column width field.now) }
     ensures fits { IfOk result (λ z. FitsSigned w64 z) }
 {
     let Some(word) = field_value(field) else {
@@ -39,7 +41,7 @@ fn word_of(number: u64, column: usize, width: u8, field: &[u8]) -> Result<i64, S
 }
 
 // The word of the field at a place of a record.
-#[tactic(auto, using(crate::proofs::Fronts::field_there))]
+#[tactic(auto, using(crate::proofs::WordsSoFar::field_there))]
 fn column_word(
     program: &Program,
     number: u64,
@@ -48,7 +50,7 @@ fn column_word(
 ) -> Result<i64, SampleFault>
     requires input { j < length program.now.inputs }
     requires field { j < length (fields_of row.now) }
-    ensures word { Gives (λ z. z) result (word_in number (j + 1) (slice_index program.now.inputs j) (slice_index_or (fields_of row.now) j [])) }
+    ensures word { Gives is_memory (λ z. z) result (word_in number (j + 1) (slice_index program.now.inputs j) (slice_index_or (fields_of row.now) j [])) }
     ensures fits { IfOk result (λ z. FitsSigned w64 z) }
 {
     let Some(field) = row.get(j) else {
@@ -68,7 +70,7 @@ fn read_words(
     requires places { length input.old ≡ length program.now.inputs }
     requires fields { length (fields_of row.now) ≡ length program.now.inputs }
     ensures ok { OnOk result (words_in number 1 program.now.inputs (fields_of row.now) ≡ Ok input.new) }
-    ensures fault { IfErr result (λ e. Fails e (words_in number 1 program.now.inputs (fields_of row.now))) }
+    ensures fault { IfErr result (λ e. Fails is_memory e (words_in number 1 program.now.inputs (fields_of row.now))) }
 {
     for (j, word) in input.iter_mut().enumerate() {
         *word = column_word(program, number, row, j)?;
@@ -87,7 +89,7 @@ pub fn read_moment(
     requires { length input.old ≡ length program.now.inputs }
     ensures ok { OnOk result (moment_in number program.now.inputs (fields_of row.now) ≡ Ok input.new) }
     ensures moment { OnOk result (IsMoment program.now input.new) }
-    ensures fault { IfErr result (λ e. Fails e (moment_in number program.now.inputs (fields_of row.now))) }
+    ensures fault { IfErr result (λ e. Fails is_memory e (moment_in number program.now.inputs (fields_of row.now))) }
 {
     if row.len() != program.inputs() {
         return Err(SampleFault::Columns(number, row.len(), program.inputs()));

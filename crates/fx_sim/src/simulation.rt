@@ -6,7 +6,8 @@ ghost use Rattle.fx_code.specs.Inputs.{IsMoment, word_at};
 ghost use Rattle.fx_code.specs.Run.{outputs_at};
 ghost use Rattle.fx_machine.specs.Moments.{StandsAfter};
 ghost use Rattle.fx_sim.specs.Output.{line_of};
-ghost use Rattle.fx_sim.specs.Samples.{Gives};
+ghost use Rattle.fx_math.specs.Answers.{Gives};
+ghost use Rattle.fx_sim.specs.Samples.{is_memory};
 ghost use Rattle.fx_sim.specs.Simulation.{simulation};
 
 use crate::fault::SampleFault;
@@ -44,10 +45,10 @@ fn put_moment(
 ///
 /// The error is the first fault in the order of the records: of one record the count of its fields comes first, then
 /// column by column. `NoMemory` is no fault of the samples.
-#[tactic(auto, using(crate::proofs::Midway::begins, crate::proofs::Midway::front_of_four))]
+#[tactic(auto, using(crate::proofs::BetweenRecords::begins, crate::proofs::BetweenRecords::front_of_four))]
 pub fn simulate(alloc: Global, program: &Program, samples: &[u8]) -> Result<Vec<u8>, SampleFault>
     requires { IsWhole program.now }
-    ensures { Gives (λ text. text.items) result (simulation program.now samples.now) }
+    ensures { Gives is_memory (λ text. text.items) result (simulation program.now samples.now) }
 {
     words_read_no_later_inputs();
     let mut machine = Machine::new(alloc, program)?;

@@ -52,6 +52,14 @@ fn crossed(alloc: Global) -> Result<Program, ProgramFault> {
     Ok(program)
 }
 
+// The low 8 bits of an input of 16 bits.
+fn narrow(alloc: Global) -> Result<Program, ProgramFault> {
+    let mut program = Program::start(alloc, 32, &[16])?;
+    program.add_row(8, 0, &[term(Read::In(0), 0)])?;
+    program.add_output(0)?;
+    Ok(program)
+}
+
 fn run(
     rt: &impl Abort,
     alloc: Global,
@@ -106,6 +114,15 @@ fn a_recursive_program_runs(rt: HostRuntime) -> Result<(), Fail> {
 fn a_moving_average_runs(rt: HostRuntime) -> Result<(), Fail> {
     let program = moving_average(rt.alloc())?;
     let cases: [(&[u8], &[u8]); 1] = [(b"100\n0\n0\n0\n0\n", b"25\n25\n25\n25\n0\n")];
+    expect_texts(&rt, rt.alloc(), &program, &cases)?;
+    Ok(())
+}
+
+// What does not fit a word is lost, and the run goes on.
+#[test]
+fn words_lose_their_high_bits(rt: HostRuntime) -> Result<(), Fail> {
+    let program = narrow(rt.alloc())?;
+    let cases: [(&[u8], &[u8]); 1] = [(b"300\n-129\n-128\n", b"44\n127\n-128\n")];
     expect_texts(&rt, rt.alloc(), &program, &cases)?;
     Ok(())
 }

@@ -2,7 +2,7 @@ use Rattle.std.proofs.Common.{◌<◌, length, take, arith}
 use Rattle.std.proofs.lemmas.Int.{to_z-of_z}
 use Rattle.std.proofs.lemmas.Result.{err_from_is_err_and}
 use Rattle.csv.specs.Records.{fields_of}
-use Rattle.fx_sim.proofs.Fronts.{fault_read, more_read}
+use Rattle.fx_sim.proofs.WordsSoFar.{fault_read, more_read}
 use Rattle.fx_sim.proofs.moment.read_words.Goals as goal
 
 pub returns-in_err-word-clause-fault : goal.returns-in_err-word-clause-fault

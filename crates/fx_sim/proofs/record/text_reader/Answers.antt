@@ -2,7 +2,7 @@ use Rattle.std.proofs.Common.{◌≡◌, ap, refl, List, ℕ, Option, []}
 use Rattle.std.specs.Option.{unwrap_or}
 use Rattle.csv.specs.Reading.{default_config, records, strip_bom}
 use Rattle.fx_sim.specs.Remaining.{bytes_left, records_left}
-use Rattle.fx_sim.proofs.Rest.{few_records}
+use Rattle.fx_sim.proofs.RecordsLeft.{few_records}
 use Rattle.fx_sim.proofs.record.text_reader.Goals as goal
 
 pub returns-clause-few : goal.returns-clause-few

@@ -1,31 +1,26 @@
 -- What was read before, with what is still read.
-use Rattle.std.proofs.Common.{◌≡◌, ◌+◌, ◌<◌, ◌++◌, ◌∙◌, List, ℕ, zero, suc, ℤ, Some, Result, Ok, Err, [], ◌∷◌, drop, take, length, get_or, refl, sym, ap, append_assoc, arith}
+use Rattle.std.proofs.Common.{Bool, true, false, ◌≡◌, ◌+◌, ◌<◌, ◌++◌, ◌∙◌, List, ℕ, zero, suc, ℤ, Some, Result, Ok, Err, [], ◌∷◌, drop, take, length, get_or, refl, sym, ap, append_assoc, arith}
 use Rattle.std.proofs.Math.ListN.{set}
 use Rattle.std.proofs.Math.Seq.{drop-cons}
 use Rattle.std.proofs.lemmas.List.{take_more_set}
 use Rattle.csv.specs.Records.{field_at}
 use Rattle.fx_sim.specs.declared.fault.SampleFault.{SampleFault}
-use Rattle.fx_sim.specs.declared.fault.SampleFault.TheVariants.{Columns, Field, OutOfWord, NoMemory}
 use Rattle.fx_math.specs.Faults.{◌>>=◌}
-use Rattle.fx_sim.specs.Samples.{Fails, word_in, words_in}
+use Rattle.fx_math.specs.Answers.{IsFault, Fails}
+use Rattle.fx_math.proofs.Answers.{fails_through}
+use Rattle.fx_sim.specs.Samples.{is_memory, word_in, words_in}
 
 abbrev pub with_front : {A : Type 0} → List A → Result (List A) SampleFault → Result (List A) SampleFault
 with_front front (Ok xs) = Ok (front ++ xs)
 with_front front (Err fault) = Err fault
 
--- a fault goes through what is read later
-pub fails_through : {A B : Type 0} (e : SampleFault) (read : Result A SampleFault) (f : A → Result B SampleFault) → Fails e read → Fails e (read >>= f)
-fails_through (Columns a b d) read f h = rw h refl
-fails_through (Field a b) read f h = rw h refl
-fails_through (OutOfWord a b d) read f h = rw h refl
-fails_through NoMemory read f h = tt
+-- a fault goes through what was read before
+fault_behind : {A : Type 0} (memory : Bool) (e : SampleFault) (front : List A) (read : Result (List A) SampleFault) → IsFault memory e read → IsFault memory e (with_front front read)
+fault_behind true e front read h = tt
+fault_behind false e front read h = rw h refl
 
--- and through what was read before
-pub fails_behind : {A : Type 0} (e : SampleFault) (front : List A) (read : Result (List A) SampleFault) → Fails e read → Fails e (with_front front read)
-fails_behind (Columns a b d) front read h = rw h refl
-fails_behind (Field a b) front read h = rw h refl
-fails_behind (OutOfWord a b d) front read h = rw h refl
-fails_behind NoMemory front read h = tt
+pub fails_behind : {A : Type 0} (e : SampleFault) (front : List A) (read : Result (List A) SampleFault) → Fails is_memory e read → Fails is_memory e (with_front front read)
+fails_behind e front read h = fault_behind (is_memory e) e front read h
 
 -- one more value moves to the front
 pub regroup : {A : Type 0} (front : List A) (x : A) (read : Result (List A) SampleFault) → with_front front (read >>= λ xs. Ok (x ∷ xs)) ≡ with_front (front ++ x ∷ []) read
@@ -63,10 +58,10 @@ more_read number i widths fields input z total below there place word h =
     rw two (sym one ∙ h)
 
 pub fault_read : (number i : ℕ) (widths : List ℕ) (fields : List (List ℕ)) (front : List ℤ) (e : SampleFault) (total : Result (List ℤ) SampleFault)
-    → i < length widths → i < length fields → Fails e (word_in number (i + 1) (get_or widths i 0) (get_or fields i []))
-    → with_front front (words_in number (i + 1) (drop i widths) (drop i fields)) ≡ total → Fails e total
+    → i < length widths → i < length fields → Fails is_memory e (word_in number (i + 1) (get_or widths i 0) (get_or fields i []))
+    → with_front front (words_in number (i + 1) (drop i widths) (drop i fields)) ≡ total → Fails is_memory e total
 fault_read number i widths fields front e total below there word h =
     let column = column_read number i widths fields below there in
     let here = word_in number (i + 1) (get_or widths i 0) (get_or fields i []) in
     let later = λ (z : ℤ). words_in number (i + 1 + 1) (drop (i + 1) widths) (drop (i + 1) fields) >>= λ zs. Ok (z ∷ zs) in
-    rw (← h, column) (fails_behind e front (here >>= later) (fails_through e here later word))
+    rw (← h, column) (fails_behind e front (here >>= later) (fails_through is_memory e here later word))

@@ -4,7 +4,7 @@ use Rattle.std.specs.Option.{unwrap_or}
 use Rattle.std.proofs.lemmas.Option.{same_Some}
 use Rattle.std.proofs.lemmas.Bool.{cases_Bool}
 use Rattle.csv.specs.Machine.{Read, after_end, ends_at_end, ends_with, start_field, start_record, in_field, is_end, next_record, is_byte, step, carriage_return, line_feed}
-use Rattle.csv.specs.Reading.{Reached, ReadRecord, is_bom, records, records_from, records_next, default_config, source_of, strip_bom}
+use Rattle.csv.specs.Reading.{is_flexible, Reached, ReadRecord, is_bom, records, records_from, records_next, default_config, source_of, strip_bom}
 use Rattle.csv.proofs.ReadFacts.{rows-end, rows-more}
 use Rattle.csv.specs.declared.parser.Config.{Config}
 use Rattle.csv.specs.declared.parser.State.{State}
@@ -136,15 +136,16 @@ pub record GoesOn (a b : TextReader) (fields : List (List ℕ)) : Type 0 where
   pub stands : Stands b
   pub records : records_left a ≡ fields ∷ records_left b
 
-pub goes_on : (a b : TextReader) (fields : List (List ℕ)) → Stands a → ReadRecord known a b true fields → b.first ≡ true → GoesOn a b fields
+pub goes_on : (a b : TextReader) (fields : List (List ℕ)) → Stands a → ReadRecord known a b true fields → b.first ≡ true → is_flexible b ≡ is_flexible a → GoesOn a b fields
 unfolding Reached
-goes_on a b fields s r first =
+goes_on a b fields s r first same =
     let more = rows-more known a b fields default_config a.state (bytes_left a) (bytes_left a) [] s.config (source_bytes a s) (refl, refl) r in
     let (after, at_after, (p, found, fields_are, (state_is, rest_is))) = more in
     let next = records-more a.state (bytes_left a) p s.between found in
     let now : bytes_left b ≡ after = ap (λ (o : Option (List ℕ)). unwrap_or o []) at_after in
     record {
       stands = record {
+        flexible = same ∙ s.flexible;
         config = r.2 ∙ s.config;
         trim = r.3 ∙ s.trim;
         ready = inl first;

@@ -11,13 +11,15 @@ use Rattle.fx_sim.specs.declared.fault.SampleFault.{SampleFault}
 use Rattle.fx_sim.specs.Output.{line_of, lines_before, run_text}
 use Rattle.fx_sim.specs.Remaining.{TextReader, Stands, records_left}
 use Rattle.fx_math.specs.Faults.{◌>>=◌}
-use Rattle.fx_sim.specs.Samples.{Fails, moment_in, moments_in, samples_in}
+use Rattle.fx_math.specs.Answers.{Fails}
+use Rattle.fx_math.proofs.Answers.{fails_through}
+use Rattle.fx_sim.specs.Samples.{is_memory, moment_in, moments_in, samples_in}
 use Rattle.fx_sim.specs.Simulation.{simulation}
-use Rattle.fx_sim.proofs.Earlier.{text_goes_on}
-use Rattle.fx_sim.proofs.Fronts.{with_front, fails_behind, fails_through, regroup}
+use Rattle.fx_sim.proofs.LinesSoFar.{text_goes_on}
+use Rattle.fx_sim.proofs.WordsSoFar.{with_front, fails_behind, regroup}
 
 -- the machine stands after the moments that were read, their lines were put, and the records that are left follow
-pub record Midway (p : Code) (bytes : List ℕ) (machine : State) (reader : TextReader) (number : ℕ) (text : List ℕ) : Type 0 where
+pub record BetweenRecords (p : Code) (bytes : List ℕ) (machine : State) (reader : TextReader) (number : ℕ) (text : List ℕ) : Type 0 where
   pub list : List (List ℤ)
   pub ran : StandsAfter machine p list
   pub stands : Stands reader
@@ -30,7 +32,7 @@ with_nothing (Ok xs) = refl
 with_nothing (Err e) = refl
 
 pub begins : (p : Code) (bytes : List ℕ) (machine : State) (reader : TextReader) → StandsAfter machine p [] → Stands reader
-    → records_left reader ≡ records default_config (strip_bom bytes) → length (records_left reader) ≤ length bytes → Midway p bytes machine reader 0 []
+    → records_left reader ≡ records default_config (strip_bom bytes) → length (records_left reader) ≤ length bytes → BetweenRecords p bytes machine reader 0 []
 unfolding lines_before
 begins p bytes machine reader ran stands all few = record {
   list = [];
@@ -49,9 +51,9 @@ record_read number widths left rest fields is = rw is refl
 
 -- one record more, and its line
 pub goes_on : EarlierInputs → (p : Code) (bytes : List ℕ) (a b : State) (reader after : TextReader) (number : ℕ) (text : List ℕ) (fields : List (List ℕ)) (words : List ℤ)
-    → (m : Midway p bytes a reader number text) → Stands after → records_left reader ≡ fields ∷ records_left after
+    → (m : BetweenRecords p bytes a reader number text) → Stands after → records_left reader ≡ fields ∷ records_left after
     → moment_in (number + 1) p.inputs fields ≡ Ok words → StandsAfter b p (m.list ++ words ∷ [])
-    → Midway p bytes b after (number + 1) (text ++ line_of (outputs_at p (word_at (m.list ++ words ∷ [])) (length m.list)))
+    → BetweenRecords p bytes b after (number + 1) (text ++ line_of (outputs_at p (word_at (m.list ++ words ∷ [])) (length m.list)))
 goes_on earlier p bytes a b reader after number text fields words m stands left moment ran =
     let more = record_read (number + 1) p.inputs (records_left reader) (records_left after) fields left in
     let later = moments_in (number + 1 + 1) p.inputs (records_left after) in
@@ -70,18 +72,18 @@ goes_on earlier p bytes a b reader after number text fields words m stands left 
 
 -- a record with a fault
 pub fails : (p : Code) (bytes : List ℕ) (a : State) (reader after : TextReader) (number : ℕ) (text : List ℕ) (fields : List (List ℕ)) (e : SampleFault)
-    → Midway p bytes a reader number text → records_left reader ≡ fields ∷ records_left after → Fails e (moment_in (number + 1) p.inputs fields)
-    → Fails e (simulation p bytes)
+    → BetweenRecords p bytes a reader number text → records_left reader ≡ fields ∷ records_left after → Fails is_memory e (moment_in (number + 1) p.inputs fields)
+    → Fails is_memory e (simulation p bytes)
 fails p bytes a reader after number text fields e m left fault =
     let more = record_read (number + 1) p.inputs (records_left reader) (records_left after) fields left in
     let later = λ (words : List ℤ). moments_in (number + 1 + 1) p.inputs (records_left after) >>= λ moments. Ok (words ∷ moments) in
-    let here = fails_through e (moment_in (number + 1) p.inputs fields) later fault in
+    let here = fails_through is_memory e (moment_in (number + 1) p.inputs fields) later fault in
     let behind = fails_behind e m.list (moment_in (number + 1) p.inputs fields >>= later) here in
-    fails_through e (samples_in p.inputs bytes) (λ list. Ok (run_text p list)) (rw (← m.reads, more) behind)
+    fails_through is_memory e (samples_in p.inputs bytes) (λ list. Ok (run_text p list)) (rw (← m.reads, more) behind)
 
 -- no record is left
 pub done : (p : Code) (bytes : List ℕ) (a : State) (reader : TextReader) (number : ℕ) (text : List ℕ)
-    → Midway p bytes a reader number text → records_left reader ≡ [] → simulation p bytes ≡ Ok text
+    → BetweenRecords p bytes a reader number text → records_left reader ≡ [] → simulation p bytes ≡ Ok text
 unfolding moments_in
 done p bytes a reader number text m none =
     let all : samples_in p.inputs bytes ≡ Ok m.list = sym m.reads ∙ rw none (ap (λ (l : List (List ℤ)). Ok l) (append-nil m.list)) in
