@@ -132,8 +132,10 @@ has_places rows columns room terms free places cells kept = record {
       let here : IsPlaced room i j (spot rows columns room places i j) cells = kept.placed i j (no_end i j full) in
       let there : IsPlaced room p q (spot rows columns room places p q) cells = kept.placed p q (λ h. no_end i j full (e ∙ h)) in
       (sym here.row ∙ ap (row_of cells) e ∙ there.row, sym here.column ∙ ap (column_of cells) e ∙ there.column);
-  outside_rows = λ i j h. entry i j ∙ zero_entry i j (spot_outside rows columns room places i j (inl h));
-  outside_columns = λ i j h. entry i j ∙ zero_entry i j (spot_outside rows columns room places i j (inr h));
+  outside = record {
+    below_rows = λ i j h. entry i j ∙ zero_entry i j (spot_outside rows columns room places i j (inl h));
+    past_columns = λ i j h. entry i j ∙ zero_entry i j (spot_outside rows columns room places i j (inr h));
+  };
   counted = count_by_rows rows columns (map (coef_of cells) places) (length-map places (coef_of cells) ∙ kept.sizes.places_long);
   few = subst (λ (n : ℕ). n ≤ rows * columns) (counted rows columns room terms free places cells kept) (few_places rows columns room terms free places cells kept);
   fewer = λ i j hi hj z. subst (λ (n : ℕ). n < rows * columns) (counted rows columns room terms free places cells kept)

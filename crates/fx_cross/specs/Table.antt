@@ -4,6 +4,8 @@ use Rattle.std.specs.Prelude.{List, slice_index_or}
 use Rattle.std.specs.List.{count_by}
 use Rattle.fx_math.specs.Sums.{sum_below}
 use Rattle.fx_nums.specs.Fraction.{Fraction, zero_fraction, is_zero}
+use Rattle.fx_mat.specs.Entries.{IsZeroOutside}
+pub use Rattle.fx_mat.specs.Entries.{no_entries, put}
 use Rattle.fx_cross.specs.declared.limits.TheConstants.{GREATEST_ROOM, GREATEST_SIDE}
 
 -- the value is 0
@@ -51,14 +53,6 @@ weight c = cond (not (is_zero c)) 1 0
 abbrev pub nonzero_entries : ℕ → ℕ → (ℕ → ℕ → Fraction) → ℕ
 nonzero_entries rows columns at = sum_below rows (λ i. sum_below columns (λ j. weight (at i j)))
 
--- the entries of a table of zeros
-abbrev pub no_entries : ℕ → ℕ → Fraction
-no_entries i j = zero_fraction
-
--- the entries with c in row i and column j
-abbrev pub put : ℕ → ℕ → Fraction → (ℕ → ℕ → Fraction) → ℕ → ℕ → Fraction
-put i j c at p q = cond (p == i && q == j) c (at p q)
-
 -- so many rows and columns, and room for so many entries
 pub record HasSizes (t : Table) (rows columns room : ℕ) : Type 0 where
   pub rows_are : t.rows ≡ rows
@@ -80,8 +74,7 @@ pub record HasPlaces (t : Table) : Type 0 where
   pub below : (i j : ℕ) → IsNonzero (entry_at t i j) → place_at t i j < t.room
   pub apart : (i j p q : ℕ) → IsNonzero (entry_at t i j) → place_at t i j ≡ place_at t p q →
       (i ≡ p) × (j ≡ q)
-  pub outside_rows : (i j : ℕ) → t.rows ≤ i → entry_at t i j ≡ zero_fraction
-  pub outside_columns : (i j : ℕ) → t.columns ≤ j → entry_at t i j ≡ zero_fraction
+  pub outside : IsZeroOutside t.rows t.columns (entry_at t)
   pub counted : nonzero_count t ≡ nonzero_entries t.rows t.columns (entry_at t)
   pub few : nonzero_count t ≤ t.rows * t.columns
   pub fewer : (i j : ℕ) → i < t.rows → j < t.columns → IsZero (entry_at t i j) →

@@ -11,5 +11,6 @@ pub mod OtherRows
 pub mod Positions
 pub mod Running
 pub mod Sources
+pub mod Storage
 pub mod Terms
 pub mod Widest

@@ -4,7 +4,7 @@ use Rattle.fx_nums.specs.Fraction.{DenFits, den_value}
 use Rattle.fx_nums.specs.declared.fraction.Den.{Den}
 use Rattle.fx_nums.specs.declared.fraction.Den.TheVariants.{Two, Ten}
 use Rattle.fx_nums.specs.declared.limits.TheConstants.{GREATEST_TWO, GREATEST_TEN}
-use Rattle.fx_mat.specs.Matrix.{entry_at}
+use Rattle.fx_cross.specs.Table.{entry_at}
 use Rattle.fx_net.specs.Run.{IsDenominator}
 use Rattle.fx_net.specs.Running.{widest}
 use Rattle.fx_net.specs.Tables.{Tables, TablesFit, net_of}

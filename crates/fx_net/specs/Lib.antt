@@ -1,6 +1,7 @@
 pub mod Blocks
 pub mod Laws
 pub mod Layout
+pub mod Links
 pub mod Net
 pub mod Parts
 pub mod Rows

@@ -1,8 +1,9 @@
 -- Nets: rows that read rows of the same moment, rows of the moment before, and inputs.
 use Rattle.std.specs.Prelude.{◌≡◌, ℕ, ◌≤◌, ◌==◌, cond}
-use Rattle.fx_nums.specs.Fraction.{Fraction, zero_fraction, is_zero}
+use Rattle.fx_nums.specs.Fraction.{Fraction, zero_fraction}
 use Rattle.fx_eqs.specs.declared.limits.TheConstants.{PORTS}
 use Rattle.fx_mat.specs.Entries.{no_entries, put, IsZeroOutside}
+pub use Rattle.fx_cross.specs.Table.{plain}
 use Rattle.fx_net.specs.declared.limits.TheConstants.{LARGEST_NET, GREATEST_CLASS}
 
 -- coefficients by row and source, zero outside; and the class of each row: how many half steps its perturbation may have
@@ -12,10 +13,6 @@ pub record Net : Type 0 where
   pub old : ℕ → ℕ → Fraction
   pub input : ℕ → ℕ → Fraction
   pub class : ℕ → ℕ
-
--- 0 over 10 ^ 0 for each fraction of value 0, the others as they are
-abbrev pub plain : Fraction → Fraction
-plain c = cond (is_zero c) zero_fraction c
 
 -- rows without half steps
 abbrev pub no_class : ℕ → ℕ

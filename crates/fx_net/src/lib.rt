@@ -14,4 +14,4 @@ pub use laws::{
     expanded_rows_have_the_exact_values, other_rows_stay, rows_stand, runs_are_blocks,
 };
 pub use limits::{GREATEST_CLASS, LARGEST_NET, net_limits_are_these};
-pub use net::{Net, nets_fit, nets_have_a_denominator};
+pub use net::{Net, Which, nets_fit, nets_have_a_denominator};

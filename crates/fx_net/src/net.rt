@@ -1,23 +1,36 @@
 ghost use Rattle.std.specs.Prelude.{◌≡◌, ◌<◌, ◌≤◌, IfOk};
-ghost use Rattle.fx_net.specs.Net.{NetFits, empty_net, plain, put_class, put_input, put_now, put_old};
+ghost use Rattle.fx_net.specs.Net.{NetFits, empty_net, put_class, put_input, put_now, put_old};
 ghost use Rattle.fx_net.specs.Run.{IsDenominator};
 ghost use Rattle.fx_net.specs.Running.{widest};
-ghost use Rattle.fx_net.specs.Tables.{net_of};
+ghost use Rattle.fx_cross.specs.Table.{entry_at};
+ghost use Rattle.fx_net.specs.Tables.{HoldsAll, net_of};
+ghost use Rattle.fx_net.specs.Links.{coefficients, source_count};
 
 use crate::limits::{GREATEST_CLASS, LARGEST_NET};
+use fx_cross::{Cross, entries_have_places};
 use fx_eqs::PORTS;
-use fx_mat::{FracMat, entries_outside_are_zero};
 use fx_nums::Frac;
 use std::alloc::{AllocError, Global};
 use std::marker::Model;
+
+/// One of the tables of coefficients of a net.
+#[derive(Clone, Copy, Debug, PartialEq, Eq)]
+pub enum Which {
+    /// Those of rows of the same moment.
+    Now,
+    /// Those of rows of the moment before.
+    Old,
+    /// Those of inputs.
+    In,
+}
 
 /// N rows, each with coefficients of earlier rows of the same moment, of rows of the moment before and of `PORTS` inputs,
 /// and with a class: how many half steps its perturbation may have. N is 1 to `LARGEST_NET`.
 #[derive(Drop)]
 pub struct Net<const N: usize> {
-    now_table: FracMat<N, N>,
-    old_table: FracMat<N, N>,
-    input_table: FracMat<N, PORTS>,
+    now_table: Cross,
+    old_table: Cross,
+    input_table: Cross,
     classes: Vec<u8>,
 }
 
@@ -31,16 +44,6 @@ impl<const N: usize> Model for Net<N> {
     ghost invariant = { λ n. TablesFit (record { size = N; now_table = n.now_table; old_table = n.old_table; input_table = n.input_table; classes = n.classes.items }) };
 }
 
-// 0 over 10^0 for a fraction of value 0, each other as it is.
-fn plain(c: Frac) -> Frac
-    ensures { result ≡ plain c }
-{
-    if c.num() == 0 {
-        return Frac::zero();
-    }
-    c
-}
-
 impl<const N: usize> Net<N> {
     /// A net whose rows read nothing and have class 0. Its error is want of memory.
     pub fn new(alloc: Global) -> Result<Net<N>, AllocError>
@@ -49,9 +52,9 @@ impl<const N: usize> Net<N> {
         ensures { IfOk result (λ n. net_of n ≡ empty_net N) }
     {
         Ok(Net {
-            now_table: FracMat::new(alloc)?,
-            old_table: FracMat::new(alloc)?,
-            input_table: FracMat::new(alloc)?,
+            now_table: Cross::new(alloc, N, N, N * N)?,
+            old_table: Cross::new(alloc, N, N, N * N)?,
+            input_table: Cross::new(alloc, N, PORTS, N * PORTS)?,
             classes: vec![in alloc; 0; N]?,
         })
     }
@@ -73,7 +76,8 @@ impl<const N: usize> Net<N> {
         requires source { j < i }
         ensures { net_of self.new ≡ put_now i j c (net_of self.old) }
     {
-        self.now_table.set(i, j, plain(c));
+        entries_have_places(&self.now_table);
+        self.now_table.set(i, j, c);
     }
 
     /// Sets what row `i` takes of row `j` of the moment before; both are below N. A coefficient of value 0 is kept as 0
@@ -83,7 +87,8 @@ impl<const N: usize> Net<N> {
         requires source { j < N }
         ensures { net_of self.new ≡ put_old i j c (net_of self.old) }
     {
-        self.old_table.set(i, j, plain(c));
+        entries_have_places(&self.old_table);
+        self.old_table.set(i, j, c);
     }
 
     /// Sets what row `i`, below N, takes of input `j`, below `PORTS`. A coefficient of value 0 is kept as 0 over 10^0.
@@ -92,7 +97,8 @@ impl<const N: usize> Net<N> {
         requires source { j < PORTS }
         ensures { net_of self.new ≡ put_input i j c (net_of self.old) }
     {
-        self.input_table.set(i, j, plain(c));
+        entries_have_places(&self.input_table);
+        self.input_table.set(i, j, c);
     }
 
     /// Sets the class of row `i`, below N: how many half steps its perturbation may have, at most `GREATEST_CLASS`.
@@ -132,6 +138,19 @@ impl<const N: usize> Net<N> {
         self.input_table.get(i, j)
     }
 
+    /// A table of coefficients: N rows, a column for each row or input that they are of, and a link for each that is
+    /// not 0.
+    pub fn links(&self, which: Which) -> &Cross
+        ensures coefficients { entry_at result.now ≡ coefficients (net_of self.now) which }
+        ensures sizes { HoldsAll result.now N (source_count N which) }
+    {
+        match which {
+            Which::Now => &self.now_table,
+            Which::Old => &self.old_table,
+            Which::In => &self.input_table,
+        }
+    }
+
     /// The class of row `i`, below N: how many half steps its perturbation may have, at most `GREATEST_CLASS`.
     #[tactic(auto, using(crate::proofs::Numbers::number_read))]
     pub fn halves(&self, i: usize) -> u8
@@ -148,9 +167,9 @@ impl<const N: usize> Net<N> {
 pub fn nets_fit<const N: usize>(net: &Net<N>)
     ensures { NetFits N (net_of net.now) }
 {
-    entries_outside_are_zero(&net.now_table);
-    entries_outside_are_zero(&net.old_table);
-    entries_outside_are_zero(&net.input_table);
+    entries_have_places(&net.now_table);
+    entries_have_places(&net.old_table);
+    entries_have_places(&net.input_table);
     let _ = &net.classes;
 }
 

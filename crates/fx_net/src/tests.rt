@@ -1,4 +1,4 @@
-use crate::Net;
+use crate::{Net, Which};
 use fx_eqs::{Eqs, EqsFault, Source, Term};
 use fx_nums::{Den, Frac};
 use std::alloc::Global;
@@ -39,6 +39,27 @@ fn coefficients_are_read_back(rt: HostRuntime) -> Result<(), Fail> {
     assert_eq!(rt; net.halves(1), 2);
     assert_eq!(rt; net.now(2, 0), zero());
     assert_eq!(rt; net.halves(2), 0);
+    Ok(())
+}
+
+#[test]
+fn links_are_the_coefficients(rt: HostRuntime) -> Result<(), Fail> {
+    let mut net: Net<3> = Net::new(rt.alloc())?;
+    net.set_old(2, 0, tenths(5));
+    net.set_in(2, 3, tenths(6));
+    assert_eq!(rt;
+        net.links(Which::Old)
+            .row_first(2)
+            .map_or(9, |link| link.index),
+        0
+    );
+    assert_eq!(rt;
+        net.links(Which::In)
+            .col_first(3)
+            .map_or(9, |link| link.index),
+        2
+    );
+    assert!(rt; net.links(Which::Now).row_first(2).is_none());
     Ok(())
 }
 
