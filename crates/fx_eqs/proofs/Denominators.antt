@@ -6,8 +6,7 @@ use Rattle.std.proofs.lemmas.Nat.{pow-add}
 use Rattle.fx_nums.specs.Fraction.{den_value}
 use Rattle.fx_nums.specs.declared.fraction.Den.{Den}
 use Rattle.fx_nums.specs.declared.fraction.Den.TheVariants.{Two, Ten}
-use Rattle.fx_eqs.specs.Denominator.{two_part, ten_part, greatest, common}
-use Rattle.fx_eqs.specs.Equations.{Equations}
+use Rattle.fx_eqs.specs.Denominator.{two_part, ten_part, greatest}
 use Rattle.fx_eqs.specs.declared.term.Term.{Term}
 use Rattle.fx_eqs.specs.Laws.{CommonDividesEach}
 
