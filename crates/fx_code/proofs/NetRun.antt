@@ -18,7 +18,8 @@ use Rattle.fx_nums.specs.Fraction.{over, zero_fraction, IsWholeOver}
 use Rattle.fx_net.specs.Net.{Net}
 use Rattle.fx_net.specs.Rows.{reads_now, reads_old, reads_input, coefficient, row_of}
 use Rattle.fx_net.specs.Run.{IsDenominator, row_time, row_sum}
-use Rattle.fx_net.proofs.Carried.{of_now, of_old, of_input, right, gather, one_power, powers_to}
+use Rattle.fx_eqs.proofs.TermValues.{gather}
+use Rattle.fx_net.proofs.Carried.{of_now, of_old, of_input, right, one_power, powers_to}
 use Rattle.fx_net.proofs.Coefficients.{value_at, net_sum}
 use Rattle.fx_code.specs.Code.{Code, row_at, bare, half_place, constant_of, weight, OldIsThere, IsWhole}
 use Rattle.fx_code.specs.Fits.{SourceFits, CodeFits}

@@ -10,3 +10,5 @@ pub mod Matrices
 pub mod NoFault
 pub mod Parts
 pub mod Recursions
+pub mod TermValues
+pub mod TextbookRuns

@@ -8,4 +8,5 @@ pub mod Inside
 pub mod Lags
 pub mod Laws
 pub mod Textbook
+pub mod TextbookRuns
 pub mod Values

@@ -2,6 +2,7 @@ ghost use Rattle.std.specs.Prelude.{◌≡◌, ◌+◌, ◌*◌, ◌≤◌, leng
 ghost use Rattle.fx_eqs.specs.Faults.{eqs_fault};
 ghost use Rattle.fx_eqs.specs.Laws.{CommonDividesEach, SystemsMeetTheirEquations, WhatFitsHasNoFault};
 ghost use Rattle.fx_eqs.specs.Textbook.{lattice_terms, sos_terms, ss_terms, tf_terms};
+ghost use Rattle.fx_eqs.specs.TextbookRuns.{CascadeRuns, LatticeRuns, StateSpaceRuns, TransferRuns};
 
 use crate::limits::{COEFFICIENTS, PORTS, REFLECTIONS, SECTIONS, STATES};
 use fx_nums::Frac;
@@ -64,4 +65,28 @@ pub fn lattices_have_no_fault(k: &[Frac], v: &[Frac])
 /// positive, and it and each of its multiples is a denominator of every coefficient of the system.
 pub fn common_divides_each()
     ensures { CommonDividesEach }
+{}
+
+/// A law with nothing to run: the exact run of a transfer function meets its recursion over the input,
+/// `y(k) = b0 x(k) + b1 x(k-1) + .. - a1 y(k-1) - a2 y(k-2) - ..`, where all is 0 before the first moment.
+pub fn transfer_functions_meet_their_recursion()
+    ensures { TransferRuns }
+{}
+
+/// A law with nothing to run: in the exact run of a cascade, each second-order section meets its recursion over the section
+/// before it, and the first over the input.
+pub fn cascades_meet_their_recursions()
+    ensures { CascadeRuns }
+{}
+
+/// A law with nothing to run: the exact run of a state space meets `x(k+1) = A x(k) + B u(k)` and
+/// `y(k) = C x(k) + D u(k)`, and its states are 0 at the first moment.
+pub fn state_spaces_meet_their_equations()
+    ensures { StateSpaceRuns }
+{}
+
+/// A law with nothing to run: the exact run of a lattice meets its equations from the input down to the first reflection
+/// and back up, and its output is the sum of the taps over what comes back.
+pub fn lattices_meet_their_equations()
+    ensures { LatticeRuns }
 {}

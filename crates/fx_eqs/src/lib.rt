@@ -12,8 +12,10 @@ mod tests;
 
 pub use fault::EqsFault;
 pub use laws::{
-    cascades_have_no_fault, common_divides_each, exact_values_meet_their_equations,
-    lattices_have_no_fault, state_spaces_have_no_fault, transfer_functions_have_no_fault,
+    cascades_have_no_fault, cascades_meet_their_recursions, common_divides_each,
+    exact_values_meet_their_equations, lattices_have_no_fault, lattices_meet_their_equations,
+    state_spaces_have_no_fault, state_spaces_meet_their_equations,
+    transfer_functions_have_no_fault, transfer_functions_meet_their_recursion,
     what_fits_has_no_fault,
 };
 pub use limits::{

@@ -15,9 +15,7 @@ use Rattle.fx_eqs.specs.declared.limits.TheConstants.{PORTS}
 use Rattle.fx_net.specs.Blocks.{IsBlock, block_den, raise, raised, reads}
 use Rattle.fx_net.specs.Net.{Net}
 use Rattle.fx_net.specs.Run.{IsRun, row_sum, row_time}
-
-zero-mul : (z : ℤ) → pos 0 *ℤ z ≡ pos 0
-zero-mul z = omega (arith, ints)
+use Rattle.fx_net.proofs.Coefficients.{zero-mul}
 
 -- the moment n before k: a moment of the run, or one before its start
 abbrev LagCases : ℕ → ℕ → Type 0

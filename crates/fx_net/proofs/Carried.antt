@@ -4,11 +4,13 @@ use Rattle.std.proofs.Math.IntN.{ℤ, pos, ◌*ℤ◌}
 use Rattle.std.proofs.Math.Nat.{pow-suc, pow-zero}
 use Rattle.std.proofs.lemmas.Int.{ints}
 use Rattle.std.proofs.lemmas.Nat.{pow-add}
+use Rattle.fx_math.proofs.Lines.{swapped}
 use Rattle.fx_math.proofs.Ring.{mul_comm, mul_assoc}
 use Rattle.fx_math.specs.Unroll.{lagged, before}
 use Rattle.fx_math.specs.Ratio.{Ratio, SameValue}
 use Rattle.fx_nums.specs.Fraction.{Fraction, over, IsWholeOver, den_value}
 use Rattle.fx_eqs.specs.Values.{whole}
+use Rattle.fx_eqs.proofs.TermValues.{gather}
 use Rattle.fx_net.specs.Net.{Net}
 use Rattle.fx_net.specs.Run.{net_value, row_time}
 
@@ -27,12 +29,6 @@ of_input net q u k r j = u k j *ℤ pos (q ^ row_time net k r)
 -- natural factors gathered at the right
 pub right : (n m k : ℕ) (y : ℤ) → n * m ≡ k → pos n *ℤ (y *ℤ pos m) ≡ y *ℤ pos k
 right n m k y e = mul_comm (pos n) (y *ℤ pos m) ∙ mul_assoc y (pos m) (pos n) ∙ ap (λ x. y *ℤ pos x) (let f : m * n ≡ k = omega (arith, e) in f)
-
-pub gather : (m n k : ℕ) (y : ℤ) → m * n ≡ k → (y *ℤ pos m) *ℤ pos n ≡ y *ℤ pos k
-gather m n k y e = mul_assoc y (pos m) (pos n) ∙ ap (λ x. y *ℤ pos x) e
-
-pub swapped : (x : ℤ) (a b : ℕ) → (x *ℤ pos a) *ℤ pos b ≡ (x *ℤ pos b) *ℤ pos a
-swapped x a b = gather a b (a * b) x refl ∙ sym (gather b a (a * b) x (omega arith))
 
 pub power : (q a b c : ℕ) → a + b ≡ c → q ^ a * q ^ b ≡ q ^ c
 power q a b c e = sym (pow-add q a b) ∙ ap (λ n. q ^ n) e
@@ -131,7 +127,7 @@ unfolding CarriesInput
 held_source net q c u z k r s j a h e =
     let f : q ^ (row_time net k s + 1) * q ^ (net.rows + r - s - 1) ≡ q ^ row_time net (suc k) r = power q (row_time net k s + 1) (net.rows + r - s - 1) (row_time net (suc k) r) (omega arith) in
     ap (λ x. x *ℤ pos c) (ap (λ x. x *ℤ pos (q ^ (net.rows + r - s - 1))) e ∙ gather (q ^ (row_time net k s + 1)) (q ^ (net.rows + r - s - 1)) (q ^ row_time net (suc k) r) (lagged u k a j) f)
-    ∙ swapped (lagged u k a j) (q ^ row_time net (suc k) r) c
+    ∙ swapped (lagged u k a j) (pos (q ^ row_time net (suc k) r)) (pos c)
 
 -- ---- rows that hold
 
@@ -182,7 +178,7 @@ kept_value net q z k r s value h e same =
     let d = q ^ (net.rows + r - s - 1) * q in
     let t : row_time net k s + 1 + (net.rows + r - s - 1) + 1 ≡ row_time net (suc k) r + 1 = omega arith in
     ap (λ x. x *ℤ pos value.den) (e ∙ right q (q ^ (net.rows + r - s - 1)) d (z k s) (omega arith))
-    ∙ swapped (z k s) d value.den
+    ∙ swapped (z k s) (pos d) (pos value.den)
     ∙ ap (λ x. x *ℤ pos d) same
     ∙ gather (q ^ (row_time net k s + 1)) d (q ^ (row_time net (suc k) r + 1)) value.num (powers_to q (row_time net k s + 1) (net.rows + r - s - 1) (row_time net (suc k) r + 1) t)
 

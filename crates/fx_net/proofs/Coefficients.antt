@@ -112,7 +112,7 @@ abbrev pub AllFit : ℕ → ℕ → ℕ → List NetTerm → Type 0
 AllFit n at r [] = Unit {0}
 AllFit n at r (t ∷ ts) = ReadFits n at r t.from × AllFit n at r ts
 
-zero-mul : (z : ℤ) → pos 0 *ℤ z ≡ pos 0
+pub zero-mul : (z : ℤ) → pos 0 *ℤ z ≡ pos 0
 zero-mul z = omega (arith, ints)
 
 -- w at place t, 0 elsewhere

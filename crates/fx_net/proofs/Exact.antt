@@ -4,6 +4,7 @@ use Rattle.std.proofs.Math.IntN.{ℤ, pos, ◌+ℤ◌, ◌*ℤ◌}
 use Rattle.std.proofs.lemmas.Int.{ints}
 use Rattle.std.proofs.lemmas.Bool.{cases_lt, cases_eq, eq-eqb, ne_eqb}
 use Rattle.std.proofs.lemmas.List.Elements.{All-head, All-tail}
+use Rattle.fx_math.proofs.Lines.{swapped}
 use Rattle.fx_math.proofs.Ring.{add-mul}
 use Rattle.fx_math.specs.Ratio.{SameValue}
 use Rattle.fx_math.specs.Unroll.{lagged}
@@ -27,7 +28,7 @@ use Rattle.fx_net.specs.Net.{Net}
 use Rattle.fx_net.specs.Rows.{reads_now, reads_old, reads_input, coefficient, row_of, HoldsRows, ReadFits}
 use Rattle.fx_net.specs.Run.{IsDenominator, IsRun, net_value, row_time, row_sum}
 use Rattle.fx_net.proofs.Apart.{Stands, terms_once}
-use Rattle.fx_net.proofs.Carried.{of_now, of_old, of_input, swapped, one_power, no_power, crossed, one_term, Carries, carries, carried, CarriesInput, now_source, old_source, held_source, hold_input, hold_held, hold_first, keep_held, keep_first, kept_first, kept_value, carried_input}
+use Rattle.fx_net.proofs.Carried.{of_now, of_old, of_input, one_power, no_power, crossed, one_term, Carries, carries, carried, CarriesInput, now_source, old_source, held_source, hold_input, hold_held, hold_first, keep_held, keep_first, kept_first, kept_value, carried_input}
 use Rattle.fx_net.proofs.Coefficients.{AreOnce, AllFit, value_at, net_sum}
 use Rattle.fx_net.proofs.Positions.{at_input_hold, at_row, at_row_hold, row_inside, row_hold_inside, input_hold_inside}
 use Rattle.fx_net.proofs.Sources.{net_terms, takes, passes_over, read_fits, lag_high}
@@ -118,7 +119,7 @@ module _ (s : Equations) (net : Net) (at q g : ℕ) (u z : ℕ → ℕ → ℤ)
   one_source (suc k) i h b now (Row j) (suc (suc l)) r there =
       let m : l < greatest_lag (Row j) s.terms - 1 = let x = r.lag in omega arith in
       old_source net q g s.rows y z k (row i) (keep j l) i j (suc l) (let p = row_hold_inside s j l r.source m in let a = holds.inside in omega arith) r.source (b.keeps j l r.source m)
-  one_source k i h b now (Input j) zero r there = swapped (u k j) (q ^ row_time net k (row i)) (g ^ (k * s.rows + i))
+  one_source k i h b now (Input j) zero r there = swapped (u k j) (pos (q ^ row_time net k (row i))) (pos (g ^ (k * s.rows + i)))
   one_source zero i h b now (Input j) (suc l) r there = ap pos (omega arith)
   one_source (suc k) i h b now (Input j) (suc l) r there =
       let m : l < greatest_lag (Input j) s.terms = let x = r.lag in omega arith in
