@@ -1,6 +1,6 @@
-pub mod Agreement
-pub mod Assembly
-pub mod Cuts
-pub mod Joined
-pub mod Monic
-pub mod TermPowers
+pub mod AssembledFits
+pub mod CutLists
+pub mod ListsOverTen
+pub mod OutputsAgree
+pub mod SectionsMonic
+pub mod TermsOverTen

@@ -1,9 +1,11 @@
-pub mod Choices
+pub mod Building
 pub mod Coefficients
+pub mod Filter
 pub mod Fits
+pub mod Forms
 pub mod Head
 pub mod Inside
-pub mod Names
+pub mod Lists
 pub mod Ports
 pub mod Reading
-pub mod Specification
+pub mod Settings

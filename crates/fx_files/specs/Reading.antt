@@ -4,31 +4,25 @@ use Rattle.toml.specs.Data.{Members}
 use Rattle.fx_math.specs.Faults.{◌>>=◌}
 use Rattle.fx_keys.specs.Table.{table_at}
 use Rattle.fx_keys.specs.declared.fault.FilterFault.{FilterFault}
-use Rattle.fx_files.specs.Choices.{settings_in}
-use Rattle.fx_files.specs.Coefficients.{lists_in}
+use Rattle.fx_files.specs.Building.{assembled}
+use Rattle.fx_files.specs.Filter.{Filter}
 use Rattle.fx_files.specs.Head.{head_in}
-use Rattle.fx_files.specs.Ports.{Ports, ports_in, single, outputs_fit}
-use Rattle.fx_files.specs.Specification.{CoefficientLists, Settings, Specification, equations_of, with_rows}
-use Rattle.fx_files.specs.declared.words.Form.{Form}
-
--- the filter of these parts
-unfoldable pub assembled : Form → Ports → CoefficientLists → Settings → Specification
-assembled form ports lists settings =
-    let equations = equations_of form (length ports.inputs.formats) (length ports.outputs) lists in
-    record { form = form; input_low = ports.inputs.low; inputs = ports.inputs.formats; outputs = with_rows equations.outputs ports.outputs; lists = lists; settings = settings; equations = equations }
+use Rattle.fx_files.specs.Lists.{coefficients_in}
+use Rattle.fx_files.specs.Ports.{ports_in, single, outputs_fit}
+use Rattle.fx_files.specs.Settings.{settings_in}
 
 -- the parts of a table in their order, and then what they have to agree on
-unfoldable pub filter_in : Members → Result Specification FilterFault
+unfoldable pub filter_in : Members → Result Filter FilterFault
 filter_in t = do
   form ← head_in t
   ports ← ports_in t
-  lists ← lists_in form (length ports.inputs.formats) (length ports.outputs) t
+  coefficients ← coefficients_in form (length ports.inputs.formats) (length ports.outputs) t
   settings ← settings_in form t
   u ← single form (length ports.inputs.formats) (length ports.outputs)
   u ← outputs_fit ports.inputs.low settings.accumulator ports.outputs
-  Ok (assembled form ports lists settings)
+  Ok (assembled ports coefficients settings)
 
-unfoldable pub filter_of_bytes : List ℕ → Result Specification FilterFault
+unfoldable pub filter_of_bytes : List ℕ → Result Filter FilterFault
 filter_of_bytes bytes = do
   t ← table_at bytes
   filter_in t

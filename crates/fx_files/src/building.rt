@@ -1,19 +1,18 @@
 //! A filter of its parts.
 
 ghost use Rattle.std.specs.Prelude.{◌≡◌, ◌≤◌, length, All, IfOk};
-ghost use Rattle.fx_keys.specs.Fits.{OverTen};
-ghost use Rattle.fx_files.specs.Fits.{CountsFit, EntryAgrees, ListsFit, PortsFit, SettingsFit};
+ghost use Rattle.fx_nums.specs.Fraction.{OverTen};
+ghost use Rattle.fx_files.specs.Building.{assembled, equations_of, target_of, with_rows};
+ghost use Rattle.fx_files.specs.Coefficients.{coefficients_of, form_of};
+ghost use Rattle.fx_files.specs.Fits.{CoefficientsFit, CountsFit, EntryAgrees, PortsFit, SettingsFit};
 ghost use Rattle.fx_files.specs.Inside.{ports_view, settings_view};
-ghost use Rattle.fx_files.specs.Reading.{assembled};
-ghost use Rattle.fx_files.specs.Specification.{coefficients_of, equations_of, target_of, with_rows};
 
+use crate::coefficients::{Coefficients, Lists};
 use crate::filter::Filter;
 use crate::formats::{OutputEntry, OutputFormat};
-use crate::lists::Lists;
 use crate::ports::Ports;
 use crate::settings::Settings;
-use crate::words::Form;
-use fx_eqs::Eqs;
+use fx_eqs::{Eqs, PORTS};
 use fx_nums::{Frac, Iv};
 use fx_textbook::{Space, cascade_system, ladder_system, space_system, transfer_system};
 use std::alloc::{AllocError, Global};
@@ -21,34 +20,34 @@ use std::alloc::{AllocError, Global};
 // The equations of a form, with m inputs and p outputs.
 fn equations(
     alloc: Global,
-    form: Form,
     m: usize,
     p: usize,
-    lists: &Lists,
+    coefficients: &Coefficients,
 ) -> Result<Eqs, AllocError>
     requires inputs_low { 1 ≤ m }
-    requires inputs_high { m ≤ 4 }
+    requires inputs_high { m ≤ PORTS }
     requires outputs_low { 1 ≤ p }
-    requires outputs_high { p ≤ 4 }
-    requires fits { ListsFit form m p lists.now }
-    ensures { IfOk result (λ s. s ≡ equations_of form m p lists.now) }
+    requires outputs_high { p ≤ PORTS }
+    requires fits { CoefficientsFit m p coefficients.now }
+    requires over_ten { All OverTen (coefficients_of coefficients.now) }
+    ensures { IfOk result (λ s. s ≡ equations_of m p coefficients.now) }
 {
-    match form {
-        Form::Tf => transfer_system(alloc, lists.first(), lists.second()),
-        Form::Sos => cascade_system(alloc, lists.first()),
-        Form::Ss => space_system(
+    match coefficients.lists() {
+        Lists::Tf(b, a) => transfer_system(alloc, b, a),
+        Lists::Sos(sections) => cascade_system(alloc, sections),
+        Lists::Ss(n, a, b, c, d) => space_system(
             alloc,
             &Space {
-                n: lists.states(),
+                n,
                 m,
                 p,
-                a: lists.first(),
-                b: lists.second(),
-                c: lists.third(),
-                d: lists.fourth(),
+                a,
+                b,
+                c,
+                d,
             },
         ),
-        Form::Lattice => ladder_system(alloc, lists.first(), lists.second()),
+        Lists::Lattice(k, v) => ladder_system(alloc, k, v),
     }
 }
 
@@ -60,7 +59,7 @@ fn target_of(error: Frac) -> i128
 }
 
 // The outputs, each with the row that it puts out.
-#[tactic(auto, unfolding(crate::specs::Specification::with_rows))]
+#[tactic(auto, unfolding(crate::specs::Building::with_rows))]
 fn with_rows(
     alloc: Global,
     rows: &[u8],
@@ -83,35 +82,28 @@ fn with_rows(
 }
 
 /// The filter of parts that agree.
-#[tactic(auto, unfolding(crate::specs::Reading::assembled))]
+#[tactic(auto, unfolding(crate::specs::Building::assembled))]
 pub(crate) fn assembled(
     alloc: Global,
-    form: Form,
     ports: Ports,
-    lists: Lists,
+    coefficients: Coefficients,
     settings: Settings,
 ) -> Result<Filter, AllocError>
     requires ports { PortsFit (ports_view ports) }
-    requires counts { CountsFit form (length ports.inputs.formats.items) (length ports.outputs.items) }
-    requires lists { ListsFit form (length ports.inputs.formats.items) (length ports.outputs.items) lists }
-    requires over_ten { All OverTen (coefficients_of lists) }
+    requires counts { CountsFit (form_of coefficients) (length ports.inputs.formats.items) (length ports.outputs.items) }
+    requires fits { CoefficientsFit (length ports.inputs.formats.items) (length ports.outputs.items) coefficients }
+    requires over_ten { All OverTen (coefficients_of coefficients) }
     requires settings { SettingsFit (settings_view settings) }
     requires agree { All (EntryAgrees ports.inputs.low settings.accumulator) ports.outputs.items }
-    ensures { IfOk result (λ f. f ≡ assembled form (ports_view ports) lists (settings_view settings)) }
+    ensures { IfOk result (λ f. f ≡ assembled (ports_view ports) coefficients (settings_view settings)) }
 {
-    let eqs = equations(
-        alloc,
-        form,
-        ports.inputs.formats.len(),
-        ports.outputs.len(),
-        &lists,
-    )?;
+    let (inputs, outputs) = (ports.inputs.formats.len(), ports.outputs.len());
+    let eqs = equations(alloc, inputs, outputs, &coefficients)?;
     let outputs = with_rows(alloc, eqs.outputs(), &ports.outputs)?;
     Ok(Filter {
-        form,
         inputs: ports.inputs,
         outputs,
-        lists,
+        coefficients,
         settings,
         eqs,
     })

@@ -1,15 +1,21 @@
-ghost use Rattle.std.specs.Prelude.{◌≡◌, ◌<◌, ◌≤◌, ◌==◌, ◌||◌, ◌≤ℤ◌, pos, negsuc, true, IsTrue, IfOk, length, map, All, slice_index_or};
-ghost use Rattle.fx_keys.specs.Fits.{NaturalsFit, OverTen};
-ghost use Rattle.fx_files.specs.Fits.{AccumulatorFits, FilterFits, InputFits, OutputFits, is_own};
-ghost use Rattle.fx_files.specs.Specification.{coefficients_of, equations_of, list_of};
+ghost use Rattle.std.specs.Prelude.{◌≡◌, ◌<◌, ◌≤◌, Some, IsSome, IfOk, length, map, All, slice_index_or};
+ghost use Rattle.fx_math.specs.Words.{WidthFits};
+ghost use Rattle.fx_nums.specs.Fraction.{OverTen};
+ghost use Rattle.fx_keys.specs.Fits.{NaturalsFit};
+ghost use Rattle.fx_keys.specs.Keys.{IsWithin};
+ghost use Rattle.fx_keys.specs.declared.key.Key.TheVariants as key;
+ghost use Rattle.fx_files.specs.Building.{equations_of};
+ghost use Rattle.fx_files.specs.Coefficients.{coefficients_of, form_of, list_of};
+ghost use Rattle.fx_files.specs.Fits.{AccumulatorFits, FilterFits, InputFits, OutputFits};
+ghost use Rattle.fx_files.specs.Forms.{own_keys};
 
+use crate::coefficients::Coefficients;
 use crate::formats::{InputFormat, OutputFormat};
-use crate::lists::Lists;
 use crate::ports::Inputs;
 use crate::settings::Settings;
-use crate::words::{Form, Structure};
-use fx_eqs::Eqs;
-use fx_keys::Key;
+use crate::forms::{Form, Structure};
+use fx_eqs::{Eqs, PORTS};
+use fx_keys::{Key, LOWS};
 use fx_nums::Frac;
 use std::alloc::{AllocError, Global};
 use std::marker::Model;
@@ -17,22 +23,21 @@ use std::marker::Model;
 /// A filter: its equations, the formats of its words, and what is to be tried in making its code.
 #[derive(Drop)]
 pub struct Filter {
-    pub(crate) form: Form,
     pub(crate) inputs: Inputs,
     pub(crate) outputs: Vec<OutputFormat>,
-    pub(crate) lists: Lists,
+    pub(crate) coefficients: Coefficients,
     pub(crate) settings: Settings,
     pub(crate) eqs: Eqs,
 }
 
 impl Model for Filter {
-    ghost use Rattle.fx_files.specs.Specification.{Specification};
+    ghost use Rattle.fx_files.specs.Filter as filter;
 
-    ghost Value = { Specification };
+    ghost Value = { filter.Filter };
 
-    ghost use Rattle.fx_files.specs.Inside.{specification_of, IsKept};
+    ghost use Rattle.fx_files.specs.Inside.{filter_view, IsKept};
 
-    ghost view = { specification_of };
+    ghost view = { filter_view };
 
     ghost invariant = { IsKept };
 }
@@ -40,9 +45,10 @@ impl Model for Filter {
 impl Filter {
     /// The form in which the file gives the filter.
     pub fn form(&self) -> Form
-        ensures { result ≡ self.now.form }
+        ensures value { result ≡ form_of self.now.coefficients }
+        ensures lists { All (λ key. IsSome (list_of key self.now.coefficients)) (own_keys result) }
     {
-        self.form
+        self.coefficients.form()
     }
 
     /// The structure of the code that is to be made.
@@ -56,7 +62,7 @@ impl Filter {
     /// ten; the rows put out are those of the outputs.
     pub fn eqs(&self) -> &Eqs
         ensures value { result.now ≡ self.now.equations }
-        ensures textbook { result.now ≡ equations_of self.now.form (length self.now.inputs) (length self.now.outputs) self.now.lists }
+        ensures textbook { result.now ≡ equations_of (length self.now.inputs) (length self.now.outputs) self.now.coefficients }
         ensures inputs { result.now.inputs ≡ length self.now.inputs }
         ensures outputs { result.now.outputs ≡ map (λ o. o.row) self.now.outputs }
         ensures over_ten { All (λ t. OverTen t.coef) result.now.terms }
@@ -67,8 +73,7 @@ impl Filter {
     /// The low position that all inputs share, -64 to 63: an input word counts multiples of `2^low`.
     pub fn input_low(&self) -> i8
         ensures value { result ≡ self.now.input_low }
-        ensures low { negsuc 63 ≤ℤ result }
-        ensures high { result ≤ℤ pos 63 }
+        ensures within { IsWithin LOWS result }
     {
         self.inputs.low
     }
@@ -77,7 +82,7 @@ impl Filter {
     pub fn inputs(&self) -> &[InputFormat]
         ensures value { result.now ≡ self.now.inputs }
         ensures low { 1 ≤ length result.now }
-        ensures high { length result.now ≤ 4 }
+        ensures high { length result.now ≤ PORTS }
         ensures fits { All InputFits result.now }
     {
         &self.inputs.formats
@@ -87,7 +92,7 @@ impl Filter {
     pub fn outputs(&self) -> &[OutputFormat]
         ensures value { result.now ≡ self.now.outputs }
         ensures low { 1 ≤ length result.now }
-        ensures high { length result.now ≤ 4 }
+        ensures high { length result.now ≤ PORTS }
         ensures fits { All (OutputFits self.now.input_low self.now.settings.accumulator) result.now }
     {
         &self.outputs
@@ -122,8 +127,7 @@ impl Filter {
     /// The most bits of an inner word: 2 to 32.
     pub fn word(&self) -> u8
         ensures value { result ≡ self.now.settings.word }
-        ensures low { 2 ≤ result }
-        ensures high { result ≤ 32 }
+        ensures fits { WidthFits result }
     {
         self.settings.word
     }
@@ -131,7 +135,7 @@ impl Filter {
     /// Counts of guard bits, in the order in which they are to be tried: 1 to 8 numbers from 0 to 16.
     pub fn guards(&self) -> &[u8]
         ensures value { result.now ≡ self.now.settings.guards }
-        ensures fits { NaturalsFit 0 16 result.now }
+        ensures fits { NaturalsFit key.Guards result.now }
     {
         &self.settings.guards
     }
@@ -140,7 +144,7 @@ impl Filter {
     /// to 40.
     pub fn fractions(&self) -> &[u8]
         ensures value { result.now ≡ self.now.settings.fractions }
-        ensures fits { NaturalsFit 1 40 result.now }
+        ensures fits { NaturalsFit key.Fractions result.now }
     {
         &self.settings.fractions
     }
@@ -148,30 +152,28 @@ impl Filter {
     /// Counts of moments, in the order in which they are to be tried: 1 to 8 numbers from 1 to 4096.
     pub fn lengths(&self) -> &[u16]
         ensures value { result.now ≡ self.now.settings.lengths }
-        ensures fits { NaturalsFit 1 4096 result.now }
+        ensures fits { NaturalsFit key.Lengths result.now }
     {
         &self.settings.lengths
     }
 
     /// The coefficients of all keys of the form, key after key, each over a power of ten.
     pub fn coefficients(&self) -> &[Frac]
-        ensures value { result.now ≡ coefficients_of self.now.lists }
+        ensures value { result.now ≡ coefficients_of self.now.coefficients }
         ensures over_ten { All OverTen result.now }
     {
-        self.lists.all()
+        self.coefficients.all()
     }
 
     /// The coefficients of one key of the form, row after row, each over a power of ten.
     pub fn list(&self, key: Key) -> &[Frac]
-        requires { is_own self.now.form key ≡ true }
-        ensures value { result.now ≡ list_of key self.now.lists }
+        requires { IsSome (list_of key self.now.coefficients) }
+        ensures value { Some result.now ≡ list_of key self.now.coefficients }
         ensures over_ten { All OverTen result.now }
     {
-        match key {
-            Key::A | Key::MatB | Key::V => self.lists.second(),
-            Key::MatC => self.lists.third(),
-            Key::MatD => self.lists.fourth(),
-            _ => self.lists.first(),
+        match self.coefficients.list(key) {
+            Some(list) => list,
+            None => unreachable!(),
         }
     }
 
@@ -182,10 +184,9 @@ impl Filter {
         let inputs = self.inputs.copy(alloc)?;
         let outputs = self.outputs.to_vec(alloc)?;
         Ok(Filter {
-            form: self.form,
             inputs,
             outputs,
-            lists: self.lists.copy(alloc)?,
+            coefficients: self.coefficients.copy(alloc)?,
             settings: self.settings.copy(alloc)?,
             eqs: self.eqs.copy(alloc)?,
         })
@@ -196,5 +197,5 @@ impl Filter {
 pub fn filters_fit(filter: &Filter)
     ensures { FilterFits filter.now }
 {
-    let _ = &filter.form;
+    let _ = &filter.coefficients;
 }

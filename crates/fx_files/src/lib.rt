@@ -5,6 +5,7 @@ mod building;
 mod coefficients;
 mod filter;
 mod formats;
+mod forms;
 mod head;
 mod lists;
 mod ports;
@@ -12,10 +13,9 @@ mod reading;
 mod settings;
 #[cfg(test)]
 mod tests;
-mod words;
 
 pub use filter::{Filter, filters_fit};
 pub use formats::{InputFormat, OutputFormat};
+pub use forms::{Form, Structure};
 pub use fx_keys::{FilterFault, Key, KeyText, unknown_keys_come_first};
 pub use reading::read_filter;
-pub use words::{Form, Structure};

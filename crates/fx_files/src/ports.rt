@@ -2,17 +2,21 @@
 
 ghost use Rattle.std.specs.Prelude.{◌≡◌, ◌≤◌, ◌<◌, ◌≤ℤ◌, ◌-ℤ◌, pos, negsuc, length, All, IfOk};
 ghost use Rattle.toml.specs.View.{table_view, items_view};
-ghost use Rattle.fx_keys.specs.Fits.{OverTen};
-ghost use Rattle.fx_keys.specs.Steps.{Gives};
+ghost use Rattle.fx_nums.specs.Fraction.{OverTen};
+ghost use Rattle.fx_math.specs.Answers.{Gives};
+ghost use Rattle.fx_math.specs.Words.{WidthFits};
+ghost use Rattle.fx_keys.specs.Faults.{is_memory, seen};
+ghost use Rattle.fx_keys.specs.Keys.{IsWithin, most_of};
 ghost use Rattle.fx_files.specs.Fits.{CountsFit, EntryAgrees, EntryFits, InputFits, InputsFit, PortsFit};
 ghost use Rattle.fx_files.specs.Inside.{inputs_view, ports_view};
-ghost use Rattle.fx_files.specs.Ports.{alone, each_input, each_output, error_in, input_in, inputs_in, output_fits, output_in, outputs_fit, outputs_in, ports_in, single, tables_in, top_word};
+ghost use Rattle.fx_files.specs.Ports.{alone, bounds_of, each_input, each_output, error_in, input_in, inputs_in, output_fits, output_in, outputs_fit, outputs_in, ports_in, single, tables_in, top_word};
 
 use crate::formats::{InputFormat, OutputEntry};
-use crate::words::Form;
+use crate::forms::Form;
+use fx_eqs::PORTS;
 use fx_keys::{
-    FilterFault, Key, all_tables, at_most, list_at, needed, needed_natural, numeral_of, only_keys,
-    some, whole_of,
+    FilterFault, Key, LOW_DIFFERENCES, LOWS, Range, all_tables, at_most, list_at, natural_of,
+    needed, numeral_of, only_keys, some, whole_of, whole_or,
 };
 use fx_nums::Frac;
 use std::alloc::{AllocError, Global};
@@ -47,36 +51,48 @@ pub(crate) struct Ports {
 // The one to four tables at a key.
 #[tactic(auto, unfolding(crate::specs::Ports::tables_in))]
 fn tables_of(table: &Table, key: Key) -> Result<&[Value], FilterFault>
-    ensures gives { Gives (λ s. items_view s.now) result (tables_in key (table_view table.now)) }
+    ensures gives { seen (λ s. items_view s.now) result ≡ tables_in key (table_view table.now) }
     ensures low { IfOk result (λ s. 1 ≤ length s.now) }
-    ensures high { IfOk result (λ s. length s.now ≤ 4) }
+    ensures high { IfOk result (λ s. length s.now ≤ most_of key) }
 {
-    let value = needed(table, key.name(), key)?;
+    let value = needed(table, key)?;
     let entries = list_at(value, key)?;
     all_tables(entries, key)?;
     some(entries, key)?;
-    at_most(entries, key, 4)?;
+    at_most(entries, key)?;
     Ok(entries)
 }
 
 // The greatest word of so many bits.
 fn top_word(width: u16) -> i64
-    requires { (2 ≤ width) × (width ≤ 32) }
+    requires { WidthFits width }
     ensures value { result ≡ top_word width }
     ensures low { pos 0 ≤ℤ result }
 {
     (1i64 << (width - 1)) - 1
 }
 
+// The bounds that words of so many bits may have.
+fn bounds_of(width: u16) -> Range
+    requires { WidthFits width }
+    ensures value { result ≡ bounds_of width }
+    ensures some { IsWithin result result.high }
+{
+    Range {
+        low: 0,
+        high: top_word(width),
+    }
+}
+
 #[tactic(auto, unfolding(crate::specs::Ports::input_in))]
 fn input_of(alloc: Global, table: &Table) -> Result<InputFormat, FilterFault>
-    ensures gives { Gives (λ i. i) result (input_in (table_view table.now)) }
+    ensures gives { Gives is_memory (λ i. i) result (input_in (table_view table.now)) }
     ensures fits { IfOk result InputFits }
 {
-    only_keys(alloc, table, &["width", "bound"], &[])?;
-    let width = needed_natural(table, "width", Key::InputsWidth, 2, 32)?;
-    let top = top_word(width);
-    let bound = whole_of(table, "bound", Key::InputsBound, top, 0, top)?;
+    only_keys(alloc, table, &[Key::InputsWidth, Key::InputsBound], &[])?;
+    let width = natural_of(table, Key::InputsWidth)?;
+    let bounds = bounds_of(width);
+    let bound = whole_or(table, Key::InputsBound, bounds, Some(bounds.high))?;
     Ok(InputFormat {
         width: width as u8,
         bound,
@@ -85,7 +101,7 @@ fn input_of(alloc: Global, table: &Table) -> Result<InputFormat, FilterFault>
 
 #[tactic(auto, unfolding(crate::specs::Ports::each_input))]
 fn each_input(alloc: Global, entries: &[Value]) -> Result<Vec<InputFormat>, FilterFault>
-    ensures gives { Gives (λ v. v.items) result (each_input (items_view entries.now)) }
+    ensures gives { Gives is_memory (λ v. v.items) result (each_input (items_view entries.now)) }
     ensures count { IfOk result (λ v. length v.items ≡ length entries.now) }
     ensures fits { IfOk result (λ v. All InputFits v.items) }
 {
@@ -102,10 +118,10 @@ fn each_input(alloc: Global, entries: &[Value]) -> Result<Vec<InputFormat>, Filt
 // The inputs and their low position.
 #[tactic(auto, unfolding(crate::specs::Ports::inputs_in))]
 fn inputs_of(alloc: Global, table: &Table) -> Result<Inputs, FilterFault>
-    ensures gives { Gives inputs_view result (inputs_in (table_view table.now)) }
+    ensures gives { Gives is_memory inputs_view result (inputs_in (table_view table.now)) }
     ensures fits { IfOk result (λ i. InputsFit (inputs_view i)) }
 {
-    let low = whole_of(table, "input_low", Key::InputLow, 0, -64, 63)?;
+    let low = whole_of(table, Key::InputLow)?;
     let entries = tables_of(table, Key::Inputs)?;
     let formats = each_input(alloc, entries)?;
     Ok(Inputs {
@@ -114,14 +130,17 @@ fn inputs_of(alloc: Global, table: &Table) -> Result<Inputs, FilterFault>
     })
 }
 
+// The keys of an output.
+const OUTPUT_KEYS: [Key; 3] = [Key::OutputsWidth, Key::OutputsLow, Key::OutputsError];
+
 // The error of the output at this place.
 #[tactic(auto, unfolding(crate::specs::Ports::error_in))]
 fn error_of(table: &Table, place: u32) -> Result<Frac, FilterFault>
-    ensures gives { Gives (λ c. c) result (error_in place (table_view table.now)) }
+    ensures gives { result ≡ error_in place (table_view table.now) }
     ensures over_ten { IfOk result OverTen }
     ensures low { IfOk result (λ c. pos 0 ≤ℤ c.num) }
 {
-    let value = needed(table, "error", Key::OutputsError)?;
+    let value = needed(table, Key::OutputsError)?;
     let error = numeral_of(value, Key::OutputsError, place)?;
     if error.num() < 0 {
         return Err(FilterFault::Limit(Key::OutputsError, i64::from(place), 0));
@@ -138,13 +157,13 @@ fn output_of(
     place: u32,
 ) -> Result<OutputEntry, FilterFault>
     requires { InputsFit (inputs_view inputs.now) }
-    ensures gives { Gives (λ o. o) result (output_in inputs.now.low place (table_view table.now)) }
+    ensures gives { Gives is_memory (λ o. o) result (output_in inputs.now.low place (table_view table.now)) }
     ensures fits { IfOk result EntryFits }
 {
-    only_keys(alloc, table, &["width", "low", "error"], &[])?;
-    let width = needed_natural(table, "width", Key::OutputsWidth, 2, 32)?;
+    only_keys(alloc, table, &OUTPUT_KEYS, &[])?;
+    let width = natural_of(table, Key::OutputsWidth)?;
     let default = i64::from(inputs.low);
-    let low = whole_of(table, "low", Key::OutputsLow, default, -64, 63)?;
+    let low = whole_or(table, Key::OutputsLow, LOWS, Some(default))?;
     let error = error_of(table, place)?;
     Ok(OutputEntry {
         width: width as u8,
@@ -160,8 +179,8 @@ fn each_output(
     inputs: &Inputs,
 ) -> Result<Vec<OutputEntry>, FilterFault>
     requires fits { InputsFit (inputs_view inputs.now) }
-    requires few { length entries.now ≤ 4 }
-    ensures gives { Gives (λ v. v.items) result (each_output inputs.now.low 0 (items_view entries.now)) }
+    requires few { length entries.now ≤ PORTS }
+    ensures gives { Gives is_memory (λ v. v.items) result (each_output inputs.now.low 0 (items_view entries.now)) }
     ensures count { IfOk result (λ v. length v.items ≡ length entries.now) }
     ensures fits { IfOk result (λ v. All EntryFits v.items) }
 {
@@ -184,9 +203,9 @@ fn outputs_of(
     inputs: &Inputs,
 ) -> Result<Vec<OutputEntry>, FilterFault>
     requires { InputsFit (inputs_view inputs.now) }
-    ensures gives { Gives (λ v. v.items) result (outputs_in inputs.now.low (table_view table.now)) }
+    ensures gives { Gives is_memory (λ v. v.items) result (outputs_in inputs.now.low (table_view table.now)) }
     ensures low { IfOk result (λ v. 1 ≤ length v.items) }
-    ensures high { IfOk result (λ v. length v.items ≤ 4) }
+    ensures high { IfOk result (λ v. length v.items ≤ PORTS) }
     ensures fits { IfOk result (λ v. All EntryFits v.items) }
 {
     let entries = tables_of(table, Key::Outputs)?;
@@ -196,7 +215,7 @@ fn outputs_of(
 /// The inputs and outputs of a file.
 #[tactic(auto, unfolding(crate::specs::Ports::ports_in))]
 pub(crate) fn ports_of(alloc: Global, table: &Table) -> Result<Ports, FilterFault>
-    ensures gives { Gives ports_view result (ports_in (table_view table.now)) }
+    ensures gives { Gives is_memory ports_view result (ports_in (table_view table.now)) }
     ensures fits { IfOk result (λ p. PortsFit (ports_view p)) }
 {
     let inputs = inputs_of(alloc, table)?;
@@ -206,7 +225,7 @@ pub(crate) fn ports_of(alloc: Global, table: &Table) -> Result<Ports, FilterFaul
 
 // More than one is a fault.
 fn alone(key: Key, count: usize) -> Result<(), FilterFault>
-    ensures gives { Gives (λ _. tt) result (alone key count) }
+    ensures gives { result ≡ alone key count }
     ensures within { IfOk result (λ _. count ≤ 1) }
 {
     if count <= 1 {
@@ -221,7 +240,7 @@ fn alone(key: Key, count: usize) -> Result<(), FilterFault>
 pub(crate) fn single(form: Form, inputs: usize, outputs: usize) -> Result<(), FilterFault>
     requires inputs { 1 ≤ inputs }
     requires outputs { 1 ≤ outputs }
-    ensures gives { Gives (λ _. tt) result (single form inputs outputs) }
+    ensures gives { result ≡ single form inputs outputs }
     ensures counts { IfOk result (λ _. CountsFit form inputs outputs) }
 {
     if form == Form::Ss {
@@ -240,15 +259,16 @@ fn shift_of(inputs: &Inputs, output: &OutputEntry) -> i64
 
 // An output's low position is at most 16 from the inputs', and its words fit the accumulator.
 fn output_fits(inputs: &Inputs, accumulator: u8, output: &OutputEntry) -> Result<(), FilterFault>
-    ensures gives { Gives (λ _. tt) result (output_fits inputs.now.low accumulator output.now) }
+    ensures gives { result ≡ output_fits inputs.now.low accumulator output.now }
     ensures within { IfOk result (λ _. EntryAgrees inputs.now.low accumulator output.now) }
 {
     let shift = shift_of(inputs, output);
-    if shift < -16 {
-        return Err(FilterFault::Limit(Key::OutputsLow, shift, -16));
+    let Range { low, high } = LOW_DIFFERENCES;
+    if shift < low {
+        return Err(FilterFault::Limit(Key::OutputsLow, shift, low));
     }
-    if shift > 16 {
-        return Err(FilterFault::Limit(Key::OutputsLow, shift, 16));
+    if shift > high {
+        return Err(FilterFault::Limit(Key::OutputsLow, shift, high));
     }
     if output.width > accumulator {
         return Err(FilterFault::Limit(
@@ -263,7 +283,7 @@ fn output_fits(inputs: &Inputs, accumulator: u8, output: &OutputEntry) -> Result
 /// The same of each output.
 #[tactic(auto, unfolding(crate::specs::Ports::outputs_fit))]
 pub(crate) fn outputs_fit(ports: &Ports, accumulator: u8) -> Result<(), FilterFault>
-    ensures gives { Gives (λ _. tt) result (outputs_fit ports.now.inputs.low accumulator ports.now.outputs.items) }
+    ensures gives { result ≡ outputs_fit ports.now.inputs.low accumulator ports.now.outputs.items }
     ensures within { IfOk result (λ _. All (EntryAgrees ports.now.inputs.low accumulator) ports.now.outputs.items) }
 {
     let inputs = &ports.inputs;

@@ -1,12 +1,13 @@
 ghost use Rattle.std.specs.Prelude.{length};
 ghost use Rattle.toml.specs.View.{table_view};
-ghost use Rattle.fx_keys.specs.Steps.{Gives};
+ghost use Rattle.fx_math.specs.Answers.{Gives};
+ghost use Rattle.fx_keys.specs.Faults.{is_memory};
 ghost use Rattle.fx_files.specs.Reading.{filter_in, filter_of_bytes};
 
 use crate::building::assembled;
-use crate::coefficients::lists_of;
 use crate::filter::Filter;
 use crate::head::head_of;
+use crate::lists::read_coefficients;
 use crate::ports::{outputs_fit, ports_of, single};
 use crate::settings::settings_of;
 use fx_keys::{FilterFault, table_of};
@@ -16,16 +17,16 @@ use toml::Table;
 // The filter of a table.
 #[tactic(auto, unfolding(crate::specs::Reading::filter_in))]
 fn filter_of(alloc: Global, table: &Table) -> Result<Filter, FilterFault>
-    ensures { Gives (λ f. f) result (filter_in (table_view table.now)) }
+    ensures { Gives is_memory (λ f. f) result (filter_in (table_view table.now)) }
 {
     let form = head_of(alloc, table)?;
     let ports = ports_of(alloc, table)?;
     let (inputs, outputs) = (ports.inputs.formats.len(), ports.outputs.len());
-    let lists = lists_of(alloc, table, form, inputs, outputs)?;
+    let coefficients = read_coefficients(alloc, table, form, inputs, outputs)?;
     let settings = settings_of(alloc, table, form)?;
     single(form, inputs, outputs)?;
     outputs_fit(&ports, settings.accumulator)?;
-    Ok(assembled(alloc, form, ports, lists, settings)?)
+    Ok(assembled(alloc, ports, coefficients, settings)?)
 }
 
 /// The filter of a file's bytes, or the file's first fault.
@@ -36,7 +37,7 @@ fn filter_of(alloc: Global, table: &Table) -> Result<Filter, FilterFault>
 /// fit the accumulator. `NoMemory` may come at any time.
 #[tactic(auto, unfolding(crate::specs::Reading::filter_of_bytes))]
 pub fn read_filter(alloc: Global, bytes: &[u8]) -> Result<Filter, FilterFault>
-    ensures { Gives (λ f. f) result (filter_of_bytes bytes.now) }
+    ensures { Gives is_memory (λ f. f) result (filter_of_bytes bytes.now) }
 {
     let table = table_of(alloc, bytes)?;
     filter_of(alloc, &table)

@@ -155,9 +155,34 @@ fn errors_and_counts_are_refused(rt: HostRuntime) -> Result<(), Fail> {
 }
 
 #[test]
-fn shapes_are_refused(rt: HostRuntime) -> Result<(), Fail> {
+fn every_fault_is_told(rt: HostRuntime) -> Result<(), Fail> {
     let table = [
         ("form = \"tf\"\nb = [7]\na = [\"1.00e0\"]", "accepted"),
+        ("form = ", "NotToml"),
+        ("form = \"tf\"\nb = [7]", "Missing(A)"),
+        ("form = \"tf\"\nb = 7", "WrongKind(B)"),
+        ("form = \"x\"", "UnknownWord(Form)"),
+        (
+            "form = \"sos\"\nb = [7]",
+            "UnknownKey(KeyText { text: [98] })",
+        ),
+        ("form = \"tf\"\nb = [7, \"-\"]", "Numeral(B, 1, Empty)"),
+        (
+            "form = \"tf\"\nb = [\"7;\"]",
+            "Numeral(B, 0, BadByte(1))",
+        ),
+        (
+            "form = \"tf\"\nb = [1234567890123456789]",
+            "Numeral(B, 0, TooManyDigits)",
+        ),
+        (
+            "form = \"tf\"\nb = [\"1e-29\"]",
+            "Numeral(B, 0, TooFine)",
+        ),
+        (
+            "form = \"tf\"\nb = [16777216]",
+            "Numeral(B, 0, TooLarge)",
+        ),
         ("form = \"tf\"\nb = [7]\na = [2]", "NotMonic(A, 0)"),
         ("form = \"tf\"\nb = []\na = [1]", "Shape(B, 0, 1)"),
         (
@@ -186,6 +211,9 @@ fn shapes_are_refused(rt: HostRuntime) -> Result<(), Fail> {
         let answer = told(rt.alloc(), text.as_bytes())?;
         assert_eq!(rt; answer.as_str(), want, "{lines}");
     }
+    let long = vec![in rt.alloc(); b'='; 100000]?;
+    let answer = told(rt.alloc(), &long)?;
+    assert_eq!(rt; answer.as_str(), "NotToml");
     Ok(())
 }
 

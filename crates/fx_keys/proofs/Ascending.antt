@@ -16,6 +16,7 @@ use Rattle.toml.proofs.Blanks.{below_from}
 use Rattle.toml.proofs.Views.{Entry, is_before-sorted}
 use Rattle.fx_keys.specs.Laws.{FirstUnknown, IsFirstUnknown}
 use Rattle.fx_keys.specs.Table.{is_known, only_keys}
+use Rattle.fx_keys.specs.declared.key.Key.{Key}
 use Rattle.fx_keys.specs.declared.fault.FilterFault.{FilterFault}
 use Rattle.fx_keys.specs.declared.fault.FilterFault.TheVariants.{UnknownKey}
 

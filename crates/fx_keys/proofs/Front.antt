@@ -2,7 +2,7 @@
 use Rattle.std.proofs.Common.{◌≡◌, ◌++◌, List, Result, Ok, Err, refl, ap, ℕ, suc, [], ◌∷◌, length}
 use Rattle.toml.specs.declared.value.Value.{Value}
 use Rattle.toml.specs.View.{items_view}
-use Rattle.fx_keys.specs.Table.{item_count}
+use Rattle.fx_keys.specs.Entries.{item_count}
 use Rattle.fx_keys.specs.declared.fault.FilterFault.{FilterFault}
 
 -- what was read before, and what is still read

@@ -6,7 +6,7 @@ use Rattle.fx_decimal.specs.Faults.{numeral, parts_in, and_then}
 use Rattle.fx_nums.specs.Signs.{number_from}
 use Rattle.fx_decimal.specs.Numeral.{Parts, bounded, scaled, limited, digits_value, meaning, without_zeros}
 use Rattle.fx_decimal.specs.declared.fault.DecimalFault.{DecimalFault}
-use Rattle.fx_keys.specs.Fits.{OverTen}
+use Rattle.fx_nums.specs.Fraction.{OverTen}
 
 -- a fraction over a power of ten, or a fault
 abbrev pub IsOverTen : Result Fraction DecimalFault → Type 0

@@ -1,13 +1,10 @@
--- What the numbers that are read keep.
-use Rattle.std.specs.Prelude.{ℕ, ◌≤◌, List, length, All}
-use Rattle.fx_nums.specs.Fraction.{IsOverTen, Fraction}
+-- What the whole numbers that are read keep.
+use Rattle.std.specs.Prelude.{ℕ, ◌≤◌, pos, List, length, All}
+use Rattle.fx_keys.specs.Keys.{IsWithin, most_of, range_of}
+use Rattle.fx_keys.specs.declared.key.Key.{Key}
 
--- a fraction over a power of ten
-abbrev pub OverTen : Fraction → Type 0
-OverTen c = IsOverTen c.den
-
--- whole numbers from low to high, one to eight of them
-pub record NaturalsFit (low high : ℕ) (ns : List ℕ) : Type 0 where
+-- those of a key's list: one or more, each in the range of the key
+pub record NaturalsFit (k : Key) (ns : List ℕ) : Type 0 where
   pub some : 1 ≤ length ns
-  pub few : length ns ≤ 8
-  pub each : All (λ n. (low ≤ n) × (n ≤ high)) ns
+  pub few : length ns ≤ most_of k
+  pub each : All (λ n. IsWithin (range_of k) (pos n)) ns

@@ -1,6 +1,8 @@
+pub mod Entries
+pub mod Faults
 pub mod Fits
+pub mod Keys
 pub mod Laws
-pub mod Names
 pub mod Numerals
-pub mod Steps
 pub mod Table
+pub mod Wholes

@@ -7,8 +7,8 @@ use Rattle.fx_math.specs.Faults.{◌>>=◌, or_fault}
 use Rattle.fx_decimal.specs.Faults.{numeral}
 use Rattle.fx_decimal.specs.declared.fault.DecimalFault.{DecimalFault}
 use Rattle.fx_nums.specs.Fraction.{Fraction}
-use Rattle.fx_keys.specs.Names.{name_of}
-use Rattle.fx_keys.specs.Table.{needed, list_at, exactly}
+use Rattle.fx_keys.specs.Entries.{list_at, exactly}
+use Rattle.fx_keys.specs.Table.{needed}
 use Rattle.fx_keys.specs.declared.fault.FilterFault.{FilterFault}
 use Rattle.fx_keys.specs.declared.fault.FilterFault.TheVariants.{WrongKind, Numeral}
 use Rattle.fx_keys.specs.declared.key.Key.{Key}
@@ -45,7 +45,7 @@ each_numeral k place (item v vs) = do
 -- the list of numerals at a key
 unfoldable pub entries_in : Key → Members → Result Items FilterFault
 entries_in k t = do
-  v ← needed k (name_of k) t
+  v ← needed k t
   vs ← list_at k v
   u ← all_numerals k vs
   Ok vs
@@ -63,7 +63,7 @@ all_rows k (item v vs) = do
 -- the rows at a key
 unfoldable pub rows_in : Key → Members → Result Items FilterFault
 rows_in k t = do
-  v ← needed k (name_of k) t
+  v ← needed k t
   vs ← list_at k v
   u ← all_rows k vs
   Ok vs

@@ -1,22 +1,26 @@
-//! Keys of filter files: the value at a key, its kind and its limits, up to the first fault. What a filter is, is not
-//! known here.
+//! Keys of filter files: how each is spelled, the value at it, its kind and its limits, up to the first fault. What a
+//! filter is, is not known here.
 #![tactic(auto)]
 
 mod entries;
 mod fault;
 mod key;
+mod limits;
 mod numerals;
 mod table;
 #[cfg(test)]
 mod tests;
+mod wholes;
 
-pub use entries::{
-    all_tables, at_most, exactly, item_count, list_at, naturals_of, small_naturals_of, some,
-};
+pub use entries::{all_tables, at_most, exactly, item_count, list_at, some};
 pub use fault::FilterFault;
 pub use key::{Key, KeyText};
-pub use numerals::{each_numeral, entries_of, matrix_of, numeral_of, rows_of};
-pub use table::{
-    natural_of, needed, needed_natural, only_keys, table_of, unknown_keys_come_first, value_at,
-    whole_of,
+pub use limits::{
+    ACCUMULATOR_WIDTHS, BOUNDS, DEFAULT_FRACTIONS, DEFAULT_GUARDS, DEFAULT_LENGTHS, FRACTIONS,
+    GREATEST_BOUND, GUARDS, LENGTHS, LIST_ENTRIES, LONGEST_BLOCK, LONGEST_FRACTION, LOW_DIFFERENCES,
+    LOWS, MOST_GUARDS, NO_NUMBERS, Range, SECTION_COEFFICIENTS, WIDTHS, counts_are_these,
+    defaults_are_these, ranges_are_these,
 };
+pub use numerals::{each_numeral, entries_of, matrix_of, numeral_of, rows_of};
+pub use table::{needed, only_keys, table_of, unknown_keys_come_first, value_at};
+pub use wholes::{integer_or, narrowed, natural_of, naturals_of, whole_of, whole_or};

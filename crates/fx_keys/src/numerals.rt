@@ -3,14 +3,16 @@
 ghost use Rattle.fx_decimal.specs.Faults.{numeral};
 ghost use Rattle.std.specs.Prelude.{◌≡◌, ◌≤◌, ◌<◌, ◌+◌, ◌*◌, ◌^◌, length, All, IfOk, is_some};
 ghost use Rattle.toml.specs.View.{view, table_view, items_view};
-ghost use Rattle.fx_keys.specs.Fits.{OverTen};
+ghost use Rattle.fx_nums.specs.Fraction.{OverTen};
 ghost use Rattle.fx_keys.specs.Numerals.{all_numerals, all_rows, each_exactly, each_numeral, each_row, entries_in, matrix, numeral_at, numeral_text, row_of, rows_in};
-ghost use Rattle.fx_keys.specs.Steps.{Gives};
+ghost use Rattle.fx_keys.specs.Faults.{is_memory, seen};
+ghost use Rattle.fx_math.specs.Answers.{Gives};
 
 use crate::entries::{exactly, list_at};
 use crate::fault::FilterFault;
 use crate::key::Key;
 use crate::table::needed;
+use fx_eqs::STATES;
 use fx_decimal::{DecimalFault, read_decimal};
 use fx_nums::Frac;
 use itoa::Buffer;
@@ -35,7 +37,7 @@ fn fraction_of(text: &[u8]) -> Result<Frac, DecimalFault>
 /// for other values, `Numeral` with its place for a text that is no numeral.
 #[tactic(auto, unfolding(crate::specs::Numerals::numeral_at))]
 pub fn numeral_of(value: &Value, key: Key, place: u32) -> Result<Frac, FilterFault>
-    ensures gives { Gives (λ c. c) result (numeral_at key place (view value.now)) }
+    ensures gives { result ≡ numeral_at key place (view value.now) }
     ensures over_ten { IfOk result OverTen }
 {
     let mut buffer = Buffer::new();
@@ -54,7 +56,7 @@ pub fn numeral_of(value: &Value, key: Key, place: u32) -> Result<Frac, FilterFau
 
 #[tactic(auto, unfolding(crate::specs::Numerals::all_numerals))]
 fn all_numerals(entries: &[Value], key: Key) -> Result<(), FilterFault>
-    ensures { Gives (λ _. tt) result (all_numerals key (items_view entries.now)) }
+    ensures { result ≡ all_numerals key (items_view entries.now) }
 {
     for entry in entries {
         if !is_numeral(entry) {
@@ -73,7 +75,7 @@ pub fn each_numeral(
     start: u32,
 ) -> Result<Vec<Frac>, FilterFault>
     requires { start + length entries.now < 2 ^ 32 }
-    ensures gives { Gives (λ v. v.items) result (each_numeral key start (items_view entries.now)) }
+    ensures gives { Gives is_memory (λ v. v.items) result (each_numeral key start (items_view entries.now)) }
     ensures count { IfOk result (λ v. length v.items ≡ length entries.now) }
     ensures over_ten { IfOk result (λ v. All OverTen v.items) }
 {
@@ -90,9 +92,9 @@ pub fn each_numeral(
 /// whole number.
 #[tactic(auto, unfolding(crate::specs::Numerals::entries_in))]
 pub fn entries_of(table: &Table, key: Key) -> Result<&[Value], FilterFault>
-    ensures { Gives (λ s. items_view s.now) result (entries_in key (table_view table.now)) }
+    ensures { seen (λ s. items_view s.now) result ≡ entries_in key (table_view table.now) }
 {
-    let value = needed(table, key.name(), key)?;
+    let value = needed(table, key)?;
     let entries = list_at(value, key)?;
     all_numerals(entries, key)?;
     Ok(entries)
@@ -100,7 +102,7 @@ pub fn entries_of(table: &Table, key: Key) -> Result<&[Value], FilterFault>
 
 #[tactic(auto, unfolding(crate::specs::Numerals::all_rows))]
 fn all_rows(rows: &[Value], key: Key) -> Result<(), FilterFault>
-    ensures { Gives (λ _. tt) result (all_rows key (items_view rows.now)) }
+    ensures { result ≡ all_rows key (items_view rows.now) }
 {
     for row in rows {
         let entries = list_at(row, key)?;
@@ -112,9 +114,9 @@ fn all_rows(rows: &[Value], key: Key) -> Result<(), FilterFault>
 /// The rows of numerals at a key, each a list of them: else `Missing` or `WrongKind`.
 #[tactic(auto, unfolding(crate::specs::Numerals::rows_in))]
 pub fn rows_of(table: &Table, key: Key) -> Result<&[Value], FilterFault>
-    ensures { Gives (λ s. items_view s.now) result (rows_in key (table_view table.now)) }
+    ensures { seen (λ s. items_view s.now) result ≡ rows_in key (table_view table.now) }
 {
-    let value = needed(table, key.name(), key)?;
+    let value = needed(table, key)?;
     let rows = list_at(value, key)?;
     all_rows(rows, key)?;
     Ok(rows)
@@ -123,7 +125,7 @@ pub fn rows_of(table: &Table, key: Key) -> Result<&[Value], FilterFault>
 // The entries of a row of this many.
 #[tactic(auto, unfolding(crate::specs::Numerals::row_of))]
 fn row_of(value: &Value, key: Key, width: usize) -> Result<&[Value], FilterFault>
-    ensures gives { Gives (λ s. items_view s.now) result (row_of key width (view value.now)) }
+    ensures gives { seen (λ s. items_view s.now) result ≡ row_of key width (view value.now) }
     ensures within { IfOk result (λ s. length s.now ≡ width) }
 {
     let entries = list_at(value, key)?;
@@ -134,7 +136,7 @@ fn row_of(value: &Value, key: Key, width: usize) -> Result<&[Value], FilterFault
 // Each row has to have this many entries.
 #[tactic(auto, unfolding(crate::specs::Numerals::each_exactly))]
 fn each_exactly(rows: &[Value], key: Key, width: usize) -> Result<(), FilterFault>
-    ensures { Gives (λ _. tt) result (each_exactly key width (items_view rows.now)) }
+    ensures { result ≡ each_exactly key width (items_view rows.now) }
 {
     for row in rows {
         row_of(row, key, width)?;
@@ -144,9 +146,9 @@ fn each_exactly(rows: &[Value], key: Key, width: usize) -> Result<(), FilterFaul
 
 #[tactic(auto, unfolding(crate::specs::Numerals::each_row))]
 fn each_row(alloc: Global, rows: &[Value], key: Key, width: usize) -> Result<Vec<Frac>, FilterFault>
-    requires width { width ≤ 16 }
-    requires rows { length rows.now ≤ 16 }
-    ensures gives { Gives (λ v. v.items) result (each_row key width 0 (items_view rows.now)) }
+    requires width { width ≤ STATES }
+    requires rows { length rows.now ≤ STATES }
+    ensures gives { Gives is_memory (λ v. v.items) result (each_row key width 0 (items_view rows.now)) }
     ensures count { IfOk result (λ v. length v.items ≡ length rows.now * width) }
     ensures over_ten { IfOk result (λ v. All OverTen v.items) }
 {
@@ -171,9 +173,9 @@ pub fn matrix_of(
     key: Key,
     width: usize,
 ) -> Result<Vec<Frac>, FilterFault>
-    requires width { width ≤ 16 }
-    requires rows { length rows.now ≤ 16 }
-    ensures gives { Gives (λ v. v.items) result (matrix key width (items_view rows.now)) }
+    requires width { width ≤ STATES }
+    requires rows { length rows.now ≤ STATES }
+    ensures gives { Gives is_memory (λ v. v.items) result (matrix key width (items_view rows.now)) }
     ensures count { IfOk result (λ v. length v.items ≡ length rows.now * width) }
     ensures over_ten { IfOk result (λ v. All OverTen v.items) }
 {

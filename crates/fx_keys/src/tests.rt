@@ -1,30 +1,40 @@
 use crate::{
-    FilterFault, Key, all_tables, at_most, each_numeral, entries_of, exactly, item_count, list_at,
-    matrix_of, natural_of, naturals_of, needed, needed_natural, numeral_of, only_keys, rows_of,
-    small_naturals_of, some, table_of, unknown_keys_come_first, value_at, whole_of,
+    FilterFault, Key, LOWS, Range, all_tables, at_most, each_numeral, entries_of, exactly,
+    integer_or, item_count, list_at, matrix_of, narrowed, natural_of, naturals_of, needed,
+    numeral_of, only_keys, rows_of, some, table_of, unknown_keys_come_first, value_at, whole_of,
+    whole_or,
 };
 use fx_nums::{Den, Frac};
 use std::alloc::Global;
 use std::test::Fail;
 
 // The whole numbers of a text.
-fn wholes(alloc: Global, text: &str) -> Result<(i64, u16, u16), FilterFault> {
+fn wholes(alloc: Global, text: &str) -> Result<(i64, u16, i64, u16), FilterFault> {
     let table = table_of(alloc, text.as_bytes())?;
-    let low = whole_of(&table, "low", Key::InputLow, 0, -64, 63)?;
-    let word = natural_of(&table, "word", Key::Word, 32, 2, 32)?;
-    let width = needed_natural(&table, "width", Key::InputsWidth, 2, 32)?;
-    Ok((low, word, width))
+    let low = whole_of(&table, Key::InputLow)?;
+    let word = natural_of(&table, Key::Word)?;
+    let bounds = Range { low: 0, high: 7 };
+    let bound = whole_or(&table, Key::InputsBound, bounds, Some(5))?;
+    let width = natural_of(&table, Key::InputsWidth)?;
+    Ok((low, word, bound, width))
 }
 
 #[test]
 fn whole_numbers_have_limits(rt: HostRuntime) -> Result<(), Fail> {
     let table = [
-        ("low = -64\nword = 2\nwidth = 32", "Ok((-64, 2, 32))"),
-        ("width = 2", "Ok((0, 32, 2))"),
-        ("low = -65\nwidth = 2", "Err(Limit(InputLow, -65, -64))"),
-        ("low = 64\nwidth = 2", "Err(Limit(InputLow, 64, 63))"),
-        ("low = 0.5\nwidth = 2", "Err(WrongKind(InputLow))"),
+        (
+            "input_low = -64\nword = 2\nbound = 7\nwidth = 32",
+            "Ok((-64, 2, 7, 32))",
+        ),
+        ("width = 2", "Ok((0, 32, 5, 2))"),
+        (
+            "input_low = -65\nwidth = 2",
+            "Err(Limit(InputLow, -65, -64))",
+        ),
+        ("input_low = 64\nwidth = 2", "Err(Limit(InputLow, 64, 63))"),
+        ("input_low = 0.5\nwidth = 2", "Err(WrongKind(InputLow))"),
         ("word = 33\nwidth = 1", "Err(Limit(Word, 33, 32))"),
+        ("bound = 8", "Err(Limit(InputsBound, 8, 7))"),
         ("word = 3", "Err(Missing(InputsWidth))"),
         ("word = ", "Err(NotToml)"),
     ];
@@ -33,21 +43,26 @@ fn whole_numbers_have_limits(rt: HostRuntime) -> Result<(), Fail> {
         let answer = format!(in rt.alloc(); "{found:?}")?;
         assert_eq!(rt; answer.as_str(), want, "{text}");
     }
+    let table = table_of(rt.alloc(), b"accumulator = 100000")
+        .ok()
+        .ok_or("read")?;
+    assert_eq!(rt; integer_or(&table, Key::Accumulator, None).ok(), Some(100000));
+    assert_eq!(rt; integer_or(&table, Key::Word, Some(LOWS.high)).ok(), Some(63));
     Ok(())
 }
 
 // The lists of whole numbers of a text.
 fn lists(alloc: Global, text: &str) -> Result<(Vec<u8>, Vec<u16>), FilterFault> {
     let table = table_of(alloc, text.as_bytes())?;
-    let guards = small_naturals_of(alloc, &table, Key::Guards, &[0, 4], 0, 16)?;
-    let lengths = naturals_of(alloc, &table, Key::Lengths, &[64], 1, 4096)?;
-    Ok((guards, lengths))
+    let guards = naturals_of(alloc, &table, Key::Guards)?;
+    let lengths = naturals_of(alloc, &table, Key::Lengths)?;
+    Ok((narrowed(alloc, &guards)?, lengths))
 }
 
 #[test]
 fn lists_have_limits(rt: HostRuntime) -> Result<(), Fail> {
     let table = [
-        ("", "Ok(([0, 4], [64]))"),
+        ("lengths = [64]", "Ok(([0, 4, 8], [64]))"),
         (
             "guards = [16]\nlengths = [4096, 1]",
             "Ok(([16], [4096, 1]))",
@@ -73,10 +88,10 @@ fn lists_have_limits(rt: HostRuntime) -> Result<(), Fail> {
 fn numerals(alloc: Global, text: &str) -> Result<(Vec<Frac>, Vec<Frac>), FilterFault> {
     let table = table_of(alloc, text.as_bytes())?;
     let entries = entries_of(&table, Key::B)?;
-    at_most(entries, Key::B, 3)?;
+    at_most(entries, Key::B)?;
     let list = each_numeral(alloc, entries, Key::B, 0)?;
     let rows = rows_of(&table, Key::Sections)?;
-    at_most(rows, Key::Sections, 3)?;
+    at_most(rows, Key::Sections)?;
     Ok((list, matrix_of(alloc, rows, Key::Sections, 2)?))
 }
 
@@ -97,16 +112,11 @@ fn numerals_are_refused(rt: HostRuntime) -> Result<(), Fail> {
         ("", "Missing(B)"),
         ("b = 1", "WrongKind(B)"),
         ("b = [\"\", 0.5]", "WrongKind(B)"),
-        ("b = [1, 1, 1, \"\"]", "Limit(B, 4, 3)"),
+        (
+            "b = [1, 1, 1, 1, 1, 1, 1, 1, 1, 1, 1, 1, 1, \"\"]",
+            "Limit(B, 14, 13)",
+        ),
         ("b = [1, \"\"]", "Numeral(B, 1, Empty)"),
-        (
-            "b = [\"0.00000000000000000000000000001\"]",
-            "Numeral(B, 0, TooFine)",
-        ),
-        (
-            "b = [1, \"1.234567890123456789\"]",
-            "Numeral(B, 1, TooManyDigits)",
-        ),
         ("b = []\nsections = [1]", "WrongKind(Sections)"),
         (
             "b = []\nsections = [[\"\", 1], [1]]",
@@ -127,11 +137,11 @@ fn numerals_are_refused(rt: HostRuntime) -> Result<(), Fail> {
     Ok(())
 }
 
-// Two tables at a key, of which the first has a width and an error.
+// Two tables at a key, of which the first has an error.
 fn tables(alloc: Global, text: &str) -> Result<Frac, FilterFault> {
     let table = table_of(alloc, text.as_bytes())?;
-    only_keys(alloc, &table, &["outputs"], &["inputs"])?;
-    let entries = list_at(needed(&table, "outputs", Key::Outputs)?, Key::Outputs)?;
+    only_keys(alloc, &table, &[Key::Outputs], &[Key::Inputs])?;
+    let entries = list_at(needed(&table, Key::Outputs)?, Key::Outputs)?;
     all_tables(entries, Key::Outputs)?;
     some(entries, Key::Outputs)?;
     exactly(entries, Key::Outputs, 2)?;
@@ -139,8 +149,9 @@ fn tables(alloc: Global, text: &str) -> Result<Frac, FilterFault> {
     let first = entries[0]
         .as_table()
         .ok_or(FilterFault::WrongKind(Key::Outputs))?;
-    let error = value_at(first, "error").ok_or(FilterFault::Missing(Key::OutputsError))?;
-    numeral_of(error, Key::OutputsError, item_count(entries) as u32)
+    let key = Key::OutputsError;
+    let error = value_at(first, key).ok_or(FilterFault::Missing(key))?;
+    numeral_of(error, key, item_count(entries) as u32)
 }
 
 #[test]
@@ -175,8 +186,9 @@ fn tables_are_refused(rt: HostRuntime) -> Result<(), Fail> {
 
 #[test]
 fn keys_have_names(rt: HostRuntime) {
-    assert_eq!(rt; Key::OutputsError.name(), "outputs.error");
-    assert_eq!(rt; Key::MatD.name(), "D");
+    assert_eq!(rt; Key::OutputsError.own_name(), "error");
+    assert_eq!(rt; Key::OutputsError.parent(), Some(Key::Outputs));
+    assert_eq!(rt; (Key::MatD.own_name(), Key::MatD.parent()), ("D", None));
     if let Err(FilterFault::UnknownKey(key)) = tables(rt.alloc(), "\"é\" = 1") {
         assert_eq!(rt; key.bytes(), "é".as_bytes());
     } else {

@@ -2,7 +2,7 @@
 use Rattle.std.proofs.Common.{ℕ, List, ◌==◌, All}
 use Rattle.std.proofs.lemmas.List.Elements.{All-filter}
 use Rattle.fx_eqs.specs.declared.term.Term.{Term}
-use Rattle.fx_keys.specs.Fits.{OverTen}
+use Rattle.fx_nums.specs.Fraction.{OverTen}
 use Rattle.fx_lines.specs.Filter.{terms_of}
 
 -- they have their coefficients over powers of ten where all terms have

@@ -6,17 +6,18 @@ use Rattle.fx_decimal.specs.Printed.{fraction_text}
 use Rattle.fx_eqs.specs.declared.term.Source.{Source}
 use Rattle.fx_eqs.specs.declared.term.Source.TheVariants.{Row, In}
 use Rattle.fx_eqs.specs.declared.term.Term.{Term}
-use Rattle.fx_files.specs.Names.{form_text, structure_text}
-use Rattle.fx_files.specs.Specification.{Specification}
+use Rattle.fx_files.specs.Coefficients.{form_of}
+use Rattle.fx_files.specs.Filter.{Filter}
+use Rattle.fx_files.specs.Forms.{form_text, structure_text}
 use Rattle.fx_files.specs.declared.formats.InputFormat.{InputFormat}
 use Rattle.fx_files.specs.declared.formats.OutputFormat.{OutputFormat}
 
 -- ---- the whole
 
 -- the form, the structure, the bits of an accumulator and the most bits of an inner word
-abbrev pub head_lines : Specification → List ℕ
+abbrev pub head_lines : Filter → List ℕ
 head_lines f =
-    codes "form " ++ form_text f.form ++ codes "\nstructure " ++ structure_text f.settings.structure
+    codes "form " ++ form_text (form_of f.coefficients) ++ codes "\nstructure " ++ structure_text f.settings.structure
     ++ codes "\naccumulator " ++ decimal f.settings.accumulator ++ codes "\nword " ++ decimal f.settings.word ++ codes "\n"
 
 -- ---- inputs and outputs
@@ -74,7 +75,7 @@ rows_before terms (suc row) = rows_before terms row ++ row_line terms row
 -- ---- a filter
 
 -- its head, its inputs, its outputs, and the rows of its equations
-abbrev pub filter_lines : Specification → List ℕ
+abbrev pub filter_lines : Filter → List ℕ
 filter_lines f =
     head_lines f ++ input_lines f.input_low 0 f.inputs ++ output_lines 0 f.outputs
     ++ rows_before f.equations.terms f.equations.rows

@@ -3,7 +3,7 @@ use Rattle.std.specs.Prelude.{ℕ, List, [], ◌++◌, codes}
 use Rattle.std.specs.Fmt.{decimal, signed_decimal}
 use Rattle.fx_decimal.specs.declared.fault.DecimalFault.{DecimalFault}
 use Rattle.fx_decimal.specs.declared.fault.DecimalFault.TheVariants.{Empty, BadByte, TooManyDigits, TooFine, TooLarge}
-use Rattle.fx_keys.specs.Names.{name_of}
+use Rattle.fx_keys.specs.Keys.{name_of}
 use Rattle.fx_keys.specs.declared.fault.FilterFault.{FilterFault}
 use Rattle.fx_keys.specs.declared.fault.FilterFault.TheVariants.{NotToml, Missing, WrongKind, Numeral, NotMonic, Shape, Limit, UnknownKey, UnknownWord, NoMemory}
 

@@ -2,7 +2,7 @@
 
 ghost use Rattle.std.specs.Prelude.{◌≡◌, ◌++◌, codes, IfOk, OnOk};
 ghost use Rattle.std.specs.Fmt.{decimal};
-ghost use Rattle.fx_keys.specs.Names.{name_of};
+ghost use Rattle.fx_keys.specs.Keys.{name_of};
 ghost use Rattle.fx_keys.specs.declared.fault.FilterFault.TheVariants.{Limit, NotMonic, Numeral, Shape, UnknownKey};
 ghost use Rattle.fx_lines.specs.FilterFault.{filter_fault_line, numeral_fault_text};
 
@@ -11,12 +11,23 @@ use fx_decimal::DecimalFault;
 use fx_files::{FilterFault, Key, KeyText};
 use std::alloc::{AllocError, Global};
 
+// A key; one of a table inside a list stands behind that list's key and a point.
+fn put_name(text: &mut Vec<u8>, key: Key) -> Result<(), AllocError>
+    ensures { OnOk result (text.new.items ≡ text.old.items ++ name_of key) }
+{
+    if let Some(list) = key.parent() {
+        put_word(text, list.own_name())?;
+        put_word(text, ".")?;
+    }
+    put_word(text, key.own_name())
+}
+
 // What went wrong, and the key.
 fn keyed(alloc: Global, what: &str, key: Key) -> Result<Vec<u8>, AllocError>
     ensures { IfOk result (λ t. t.items ≡ what.now ++ name_of key ++ codes "\n") }
 {
     let mut text = Vec::from_slice(alloc, what.as_bytes())?;
-    put_word(&mut text, key.name())?;
+    put_name(&mut text, key)?;
     put_word(&mut text, "\n")?;
     Ok(text)
 }
@@ -26,7 +37,7 @@ fn placed(alloc: Global, what: &str, key: Key, place: u32) -> Result<Vec<u8>, Al
     ensures { IfOk result (λ t. t.items ≡ what.now ++ name_of key ++ codes " " ++ decimal place) }
 {
     let mut text = Vec::from_slice(alloc, what.as_bytes())?;
-    put_word(&mut text, key.name())?;
+    put_name(&mut text, key)?;
     put_field(&mut text, " ", place)?;
     Ok(text)
 }
@@ -68,7 +79,7 @@ fn shape(alloc: Global, key: Key, got: usize, wanted: usize) -> Result<Vec<u8>, 
     ensures { IfOk result (λ t. t.items ≡ filter_fault_line (Shape key got wanted)) }
 {
     let mut text = Vec::from_slice(alloc, b"bad filter shape ")?;
-    put_word(&mut text, key.name())?;
+    put_name(&mut text, key)?;
     put_field(&mut text, " ", got)?;
     put_field(&mut text, " ", wanted)?;
     put_word(&mut text, "\n")?;
@@ -80,7 +91,7 @@ fn limit(alloc: Global, key: Key, got: i64, end: i64) -> Result<Vec<u8>, AllocEr
     ensures { IfOk result (λ t. t.items ≡ filter_fault_line (Limit key got end)) }
 {
     let mut text = Vec::from_slice(alloc, b"bad filter limit ")?;
-    put_word(&mut text, key.name())?;
+    put_name(&mut text, key)?;
     put_field(&mut text, " ", got)?;
     put_field(&mut text, " ", end)?;
     put_word(&mut text, "\n")?;

@@ -5,7 +5,7 @@ use Rattle.std.specs.FinMap.{get}
 use Rattle.fx_io.specs.Shelf.{Files}
 use Rattle.fx_code.specs.Code.{Code}
 use Rattle.fx_files.specs.Reading.{filter_of_bytes}
-use Rattle.fx_files.specs.Specification.{Specification}
+use Rattle.fx_files.specs.Filter.{Filter}
 use Rattle.fx_keys.specs.declared.fault.FilterFault.{FilterFault}
 use Rattle.fx_text.specs.Reading as general
 use Rattle.fx_text.specs.declared.fault.CodeFault.{CodeFault}
@@ -57,7 +57,7 @@ module _ (P : Answer → Type 0) (no_file : P absent) (spoken : (s : Status) (te
       go true = h content
       go false = spoken TooLong line refl
 
-  of_shown : (r : Result Specification FilterFault) → P (shown r)
+  of_shown : (r : Result Filter FilterFault) → P (shown r)
   of_shown (Ok filter) = spoken Done _ refl
   of_shown (Err fault) = spoken BadFilter _ refl
 

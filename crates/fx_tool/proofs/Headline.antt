@@ -3,7 +3,7 @@ use Rattle.std.proofs.Common.{◌≡◌, inl, inr, ◌∙◌, ℕ, Bool, true, f
 use Rattle.std.specs.FinMap.{get}
 use Rattle.fx_io.specs.Shelf.{Files}
 use Rattle.fx_files.specs.Reading.{filter_of_bytes}
-use Rattle.fx_files.specs.Specification.{Specification}
+use Rattle.fx_files.specs.Filter.{Filter}
 use Rattle.fx_keys.specs.declared.fault.FilterFault.{FilterFault}
 use Rattle.fx_text.specs.Reading as general
 use Rattle.fx_text.specs.declared.fault.CodeFault.{CodeFault}
@@ -163,7 +163,7 @@ whole files name limit line next h =
     let (bytes, there, first) = content_done (get files name) (when_short limit line next) h in
     record { bytes = bytes; there = there; same = first ∙ short_done limit line next bytes (along _ _ first h) }
 
-shown_done : (r : Result Specification FilterFault) → (shown r).status ≡ Done → (f : Specification) × (r ≡ Ok f) × ((shown r).text ≡ filter_lines f)
+shown_done : (r : Result Filter FilterFault) → (shown r).status ≡ Done → (f : Filter) × (r ≡ Ok f) × ((shown r).text ≡ filter_lines f)
 shown_done (Ok f) h = (f, refl, refl)
 shown_done (Err fault) h = cc
 

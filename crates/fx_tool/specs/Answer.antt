@@ -3,7 +3,7 @@ use Rattle.std.specs.Prelude.{ℕ, nat_le, if◌then◌else◌, List, [], length
 use Rattle.std.specs.FinMap.{get}
 use Rattle.fx_io.specs.Shelf.{Files}
 use Rattle.fx_files.specs.Reading.{filter_of_bytes}
-use Rattle.fx_files.specs.Specification.{Specification}
+use Rattle.fx_files.specs.Filter.{Filter}
 use Rattle.fx_keys.specs.declared.fault.FilterFault.{FilterFault}
 use Rattle.fx_text.specs.Reading as general
 use Rattle.fx_text.specs.declared.fault.CodeFault.{CodeFault}
@@ -94,7 +94,7 @@ abbrev pub when_short : ℕ → List ℕ → (List ℕ → Answer) → List ℕ 
 when_short limit line next content = if nat_le (length content) limit then next content else says TooLong line
 
 -- Of `show`: the filter is shown, or its first fault is told.
-abbrev pub shown : Result Specification FilterFault → Answer
+abbrev pub shown : Result Filter FilterFault → Answer
 shown (Ok filter) = says Done (filter_lines filter)
 shown (Err fault) = says BadFilter (filter_fault_line fault)
 

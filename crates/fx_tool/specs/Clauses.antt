@@ -3,7 +3,7 @@ use Rattle.std.specs.Prelude.{◌≡◌, ◌⊎◌, ℕ, ◌+◌, nat_le, Bool, 
 use Rattle.std.specs.FinMap.{get, insert}
 use Rattle.fx_io.specs.Shelf.{Files}
 use Rattle.fx_files.specs.Reading.{filter_of_bytes}
-use Rattle.fx_files.specs.Specification.{Specification}
+use Rattle.fx_files.specs.Filter.{Filter as WholeFilter}
 use Rattle.fx_text.specs.Grammar.{Spells}
 use Rattle.fx_text.specs.Reading as general
 use Rattle.fx_sim.specs.Simulation.{simulation}
@@ -82,7 +82,7 @@ pub record Headline (files : Files) (o : Operands) (before after : Option (List 
 
 -- The file is read as a filter, and its lines were put.
 pub record Shows (files : Files) (name : List ℕ) (before after : Option (List ℕ)) : Type 0 where
-  pub filter : Specification
+  pub filter : WholeFilter
   pub read : IsSomeAnd (get files name) (λ bytes. filter_of_bytes bytes ≡ Ok filter)
   pub printed : GrowsBy (filter_lines filter) before after
 

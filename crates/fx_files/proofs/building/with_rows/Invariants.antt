@@ -1,5 +1,5 @@
 use Rattle.std.proofs.Common.{◌≡◌, ◌++◌, drop}
-use Rattle.fx_files.specs.Specification.{with_rows}
+use Rattle.fx_files.specs.Building.{with_rows}
 use Rattle.fx_files.proofs.building.with_rows.Given as goal
 
 abbrev pub invariant-loop-j : goal.invariant-loop-j

@@ -1,6 +1,6 @@
 use Rattle.std.proofs.Common.{◌≡◌, drop}
 use Rattle.toml.specs.View.{items_view}
-use Rattle.fx_keys.specs.Table.{all_tables}
+use Rattle.fx_keys.specs.Entries.{all_tables}
 use Rattle.fx_keys.proofs.entries.all_tables.Given as goal
 
 -- what is left says what all say

@@ -1,6 +1,6 @@
 use Rattle.std.proofs.Common.{◌≡◌, ◌+◌, drop, length, All}
 use Rattle.toml.specs.View.{items_view}
-use Rattle.fx_keys.specs.Fits.{OverTen}
+use Rattle.fx_nums.specs.Fraction.{OverTen}
 use Rattle.fx_keys.specs.Numerals.{each_numeral}
 use Rattle.fx_keys.proofs.Front.{with_front}
 use Rattle.fx_keys.proofs.numerals.each_numeral.Given as goal

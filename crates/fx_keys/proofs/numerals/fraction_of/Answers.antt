@@ -1,7 +1,7 @@
 use Rattle.std.proofs.Common.{Result, Ok, Err, IfOk, subst, sym}
 use Rattle.fx_nums.specs.Fraction.{Fraction}
 use Rattle.fx_decimal.specs.declared.fault.DecimalFault.{DecimalFault}
-use Rattle.fx_keys.specs.Fits.{OverTen}
+use Rattle.fx_nums.specs.Fraction.{OverTen}
 use Rattle.fx_keys.proofs.TenPowers.{IsOverTen, of_numeral}
 use Rattle.fx_keys.proofs.numerals.fraction_of.Goals as goal
 
