@@ -2,7 +2,8 @@
 use Rattle.std.proofs.Common.{◌≡◌, ℕ, zero, suc, ◌+◌, [], ◌∷◌, ◌++◌, length, refl, arith}
 use Rattle.std.proofs.lemmas.List.{length-append}
 use Rattle.fx_code.specs.Code.{Code}
-use Rattle.fx_bench.specs.Runs.{drawn, low_bits, mixed, moments, next_seed, put_word, seed_before, words_sum}
+use Rattle.fx_bench.specs.Checksum.{mixed}
+use Rattle.fx_bench.specs.Runs.{drawn, low_bits, moments, next_seed, put_word, seed_before, words_sum}
 
 one_more : (n : ℕ) → n + 1 ≡ suc n
 one_more n = omega arith

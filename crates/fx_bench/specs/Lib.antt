@@ -1,3 +1,4 @@
+pub mod Checksum
 pub mod Marks
 pub mod PerCall
 pub mod Runs

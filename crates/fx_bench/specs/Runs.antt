@@ -4,6 +4,7 @@ use Rattle.std.specs.Int.{cast_unsigned, w64}
 use Rattle.fx_code.specs.Code.{Code}
 use Rattle.fx_code.specs.Inputs.{word_at}
 use Rattle.fx_code.specs.Run.{outputs_at}
+use Rattle.fx_bench.specs.Checksum.{mixed}
 
 -- the generator's number behind a number
 abbrev pub next_seed : ℕ → ℕ
@@ -22,10 +23,6 @@ drawn seed = pos (seed / 65536 % 2001) -ℤ pos 1000
 unfoldable pub moments : ℕ → List (List ℤ)
 moments zero = []
 moments (suc n) = moments n ++ (drawn (seed_before (suc n)) ∷ []) ∷ []
-
--- a checksum, and a number behind it
-abbrev pub mixed : ℕ → ℕ → ℕ
-mixed sum n = (sum * 31 % 2 ^ 64 + n) % 2 ^ 64
 
 -- the low 32 bits of a word
 abbrev pub low_bits : ℤ → ℕ

@@ -14,7 +14,10 @@ texts words = map (λ w. string_bytes w) words
 
 -- the bench of this name
 abbrev pub bench_named : List ℕ → Option Bench
-bench_named word = if bytes_eq word (codes "decimal") then Some Decimal else if bytes_eq word (codes "machine") then Some Machine else None
+bench_named word =
+    if bytes_eq word (codes "decimal") then Some Decimal
+    else if bytes_eq word (codes "machine") then Some Machine
+    else None
 
 -- a number with nothing behind it, where it is not 0
 abbrev pub whole_rounds : Option (ℕ × List ℕ) → Option ℕ

@@ -1,10 +1,11 @@
 //! Decimal numerals: read, and printed with nine places.
 
-ghost use Rattle.std.specs.Prelude.{◌≡◌, ◌≤◌, ◌<◌, ◌+◌, ◌*◌, ◌^◌, length, map, unsigned_abs};
+ghost use Rattle.std.specs.Prelude.{◌≡◌, ◌≤◌, ◌<◌, ◌^◌, length, map, unsigned_abs};
 ghost use Rattle.std.specs.List.{AllByRecursion, sum};
 ghost use Rattle.fx_decimal.specs.Faults.{numeral};
-ghost use Rattle.fx_bench.specs.Marks.{printed_mark, printed_marks, read_mark, read_marks};
+ghost use Rattle.fx_bench.specs.Marks.{numeral_of_call, printed_mark, printed_sum, read_mark, read_sum, value_of_call};
 
+use crate::checksum::mixed;
 use crate::per_call::report;
 use fx_decimal::{print_up, read_decimal};
 use fx_nums::Den;
@@ -53,9 +54,8 @@ const VALUES: [i128; 16] = [
 ];
 
 // What reading a numeral adds to the checksum.
-fn read_mark(text: &[u8]) -> u128
-    ensures value { result ≡ read_mark (numeral text.now) }
-    ensures bound { result ≤ 2 ^ 64 }
+fn read_mark(text: &[u8]) -> u64
+    ensures { result ≡ read_mark (numeral text.now) }
 {
     let Ok(fraction) = read_decimal(text) else {
         return 0;
@@ -64,97 +64,91 @@ fn read_mark(text: &[u8]) -> u128
         Den::Ten(places) => places,
         Den::Two(_) => 0,
     };
-    u128::from(fraction.num().unsigned_abs()) + u128::from(places)
+    fraction.num().unsigned_abs() + u64::from(places)
 }
 
 // The sum of these bytes.
-fn byte_sum(bytes: &[u8]) -> u128
+fn byte_sum(bytes: &[u8]) -> u64
     requires { length bytes.now ≤ 64 }
-    ensures value { result ≡ sum bytes.now }
-    ensures bound { result ≤ 2 ^ 64 }
+    ensures { result ≡ sum bytes.now }
 {
-    let mut sum = 0u128;
+    let mut sum = 0;
     for byte in bytes {
-        sum += u128::from(*byte);
+        sum += u64::from(*byte);
     }
     sum
 }
 
 // What printing a value adds to the checksum.
-fn printed_mark(value: i128) -> u128
+fn printed_mark(value: i128) -> u64
     requires { unsigned_abs value < 2 ^ 126 }
-    ensures value { result ≡ printed_mark value }
-    ensures bound { result ≤ 2 ^ 64 }
+    ensures { result ≡ printed_mark value }
 {
     byte_sum(print_up(value, 9).bytes())
 }
 
-// A checksum, and the marks of a table behind it.
-fn read_table(numerals: &[&[u8]], before: u128) -> u128
-    requires few { length numerals.now ≤ 16 }
-    requires before { before ≤ 2 ^ 112 }
-    ensures value { result ≡ before + read_marks (map (λ text. text.now) numerals.now) }
-    ensures bound { result ≤ before + 2 ^ 68 }
+// The numeral that a call reads.
+fn numeral_of_call<'a>(numerals: &[&'a [u8]], call: u64, sum: u64) -> &'a [u8]
+    requires some { 0 < length numerals.now }
+    requires few { call ≤ 2 ^ 36 }
+    ensures { result.now ≡ numeral_of_call (map (λ text. text.now) numerals.now) call sum }
 {
-    let mut sum = before;
-    for numeral in numerals {
-        sum += read_mark(numeral);
+    let place = (call + sum / (1 << 60)) % numerals.len() as u64;
+    numerals[place as usize]
+}
+
+// The checksum of so many calls of `read_decimal`. Each call needs the checksum of those before it.
+#[tactic(auto, unfolding(crate::specs::Marks::read_sum))]
+fn read_sum(numerals: &[&[u8]], calls: u64) -> u64
+    requires some { 0 < length numerals.now }
+    requires few { calls ≤ 2 ^ 36 }
+    ensures { result ≡ read_sum (map (λ text. text.now) numerals.now) calls }
+{
+    let mut sum = 0;
+    for call in 0..calls {
+        sum = mixed(sum, read_mark(numeral_of_call(numerals, call, sum)));
     }
     sum
 }
 
-// The checksum of this many rounds over a table.
-fn read_rounds(numerals: &[&[u8]], rounds: u32) -> u128
-    requires { length numerals.now ≤ 16 }
-    ensures { result ≡ rounds * read_marks (map (λ text. text.now) numerals.now) }
+// The value that a call prints.
+fn value_of_call(values: &[i128], call: u64, sum: u64) -> i128
+    requires some { 0 < length values.now }
+    requires range { AllByRecursion (λ v. unsigned_abs v < 2 ^ 125) values.now }
+    ensures value { result ≡ value_of_call values.now call sum }
+    ensures bound { unsigned_abs result < 2 ^ 126 }
 {
-    let mut sum = 0u128;
-    for _ in 0..rounds {
-        sum = read_table(numerals, sum);
+    let place = call % values.len() as u64;
+    values[place as usize] + i128::from(sum % (1 << 34))
+}
+
+// The checksum of so many calls of `print_up`. Each call needs the checksum of those before it.
+#[tactic(auto, unfolding(crate::specs::Marks::printed_sum))]
+fn printed_sum(values: &[i128], calls: u64) -> u64
+    requires some { 0 < length values.now }
+    requires range { AllByRecursion (λ v. unsigned_abs v < 2 ^ 125) values.now }
+    ensures { result ≡ printed_sum values.now calls }
+{
+    let mut sum = 0;
+    for call in 0..calls {
+        sum = mixed(sum, printed_mark(value_of_call(values, call, sum)));
     }
     sum
 }
 
-// A checksum, and the marks of a table behind it.
-fn print_table(values: &[i128], before: u128) -> u128
-    requires few { length values.now ≤ 16 }
-    requires range { AllByRecursion (λ v. unsigned_abs v < 2 ^ 126) values.now }
-    requires before { before ≤ 2 ^ 112 }
-    ensures value { result ≡ before + printed_marks values.now }
-    ensures bound { result ≤ before + 2 ^ 68 }
-{
-    let mut sum = before;
-    for value in values {
-        sum += printed_mark(*value);
-    }
-    sum
-}
-
-// The checksum of this many rounds over a table.
-fn print_rounds(values: &[i128], rounds: u32) -> u128
-    requires few { length values.now ≤ 16 }
-    requires range { AllByRecursion (λ v. unsigned_abs v < 2 ^ 126) values.now }
-    ensures { result ≡ rounds * printed_marks values.now }
-{
-    let mut sum = 0u128;
-    for _ in 0..rounds {
-        sum = print_table(values, sum);
-    }
-    sum
-}
-
-/// Times `read_decimal` and `print_up`, this many rounds over a table each, and prints nanoseconds a call and a checksum.
+/// Times `read_decimal` and `print_up`, this many rounds over a table each, and prints nanoseconds a
+/// call and a checksum.
 pub fn bench(rt: &(impl Print + Clock), rounds: u32) -> io::Result<()>
     requires { 0 < rounds }
 {
     let calls = 16 * u64::from(rounds);
     let start = Instant::now(rt)?;
-    let checksum = read_rounds(&NUMERALS, rounds);
+    let checksum = read_sum(&NUMERALS, calls);
     let time = start.elapsed(rt)?;
     report(rt, "read_decimal 18 digits", time, calls, checksum)?;
 
     let start = Instant::now(rt)?;
-    let checksum = print_rounds(&VALUES, rounds);
+    let checksum = printed_sum(&VALUES, calls);
     let time = start.elapsed(rt)?;
     report(rt, "print_up 9 places", time, calls, checksum)
 }
@@ -165,7 +159,7 @@ mod tests {
 
     #[test]
     fn checksums_of_both_tables(rt: HostRuntime) {
-        assert_eq!(rt; read_rounds(&NUMERALS, 1), 7706067262576565241);
-        assert_eq!(rt; print_rounds(&VALUES, 3), 30372);
+        assert_eq!(rt; read_sum(&NUMERALS, 48), 4358368142196104529);
+        assert_eq!(rt; printed_sum(&VALUES, 48), 3961716602700336279);
     }
 }

@@ -3,8 +3,9 @@
 ghost use Rattle.std.specs.Prelude.{◌≡◌, ◌<◌, ℤ, List, [], ◌∷◌, ◌++◌, length, pos, IfOk};
 ghost use Rattle.fx_code.specs.Code.{Code};
 ghost use Rattle.fx_machine.specs.Moments.{StandsAfter};
-ghost use Rattle.fx_bench.specs.Runs.{drawn, low_bits, mixed, next_seed, put_word, words_sum};
+ghost use Rattle.fx_bench.specs.Runs.{drawn, low_bits, next_seed, put_word, words_sum};
 
+use crate::checksum::mixed;
 use crate::per_call::PerCall;
 use fx_code::{CodeTerm, Program, ProgramFault, Read};
 use fx_machine::{Machine, Marks};
@@ -72,14 +73,6 @@ fn drawn(seed: u32) -> i16
     ensures { result ≡ drawn seed }
 {
     (seed / 65536 % 2001) as i16 - 1000
-}
-
-// A checksum, and a number behind it.
-#[inline]
-fn mixed(sum: u64, number: u64) -> u64
-    ensures { result ≡ mixed sum number }
-{
-    sum.wrapping_mul(31).wrapping_add(number)
 }
 
 // The low 32 bits of a word.

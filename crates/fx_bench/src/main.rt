@@ -1,6 +1,7 @@
 //! Times calls of the library by the clock. With no words it does nothing.
 #![tactic(auto)]
 
+mod checksum;
 mod decimal;
 mod machine;
 mod per_call;

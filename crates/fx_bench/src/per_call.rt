@@ -42,7 +42,7 @@ pub fn report(
     name: &str,
     time: Duration,
     calls: u64,
-    checksum: u128,
+    checksum: u64,
 ) -> io::Result<()>
     requires { 0 < calls }
 {

@@ -21,7 +21,7 @@ limit_name Product = codes "product"
 limit_name Terms = codes "terms"
 limit_name OutputRow = codes "outputrow"
 
--- the fault with its place in bytes from 0, or the number of the reading row; want of memory has no line
+-- the fault with its place in bytes from 0, or the number of the reading row; want of memory has none
 abbrev pub code_fault_line : CodeFault → List ℕ
 code_fault_line (Token at) = codes "bad code token " ++ decimal at ++ codes "\n"
 code_fault_line (Unexpected at) = codes "bad code unexpected " ++ decimal at ++ codes "\n"
@@ -29,7 +29,9 @@ code_fault_line (Name at) = codes "bad code name " ++ decimal at ++ codes "\n"
 code_fault_line (Order row) = codes "bad code order " ++ decimal row ++ codes "\n"
 code_fault_line (Number at) = codes "bad code number " ++ decimal at ++ codes "\n"
 code_fault_line (Rounding row got wanted) =
-    codes "bad code rounding " ++ decimal row ++ codes " " ++ signed_decimal got ++ codes " " ++ signed_decimal wanted ++ codes "\n"
-code_fault_line (Limit which got) = codes "bad code limit " ++ limit_name which ++ codes " " ++ signed_decimal got ++ codes "\n"
+    codes "bad code rounding " ++ decimal row ++ codes " " ++ signed_decimal got ++ codes " "
+    ++ signed_decimal wanted ++ codes "\n"
+code_fault_line (Limit which got) =
+    codes "bad code limit " ++ limit_name which ++ codes " " ++ signed_decimal got ++ codes "\n"
 code_fault_line (Twice row) = codes "bad code twice " ++ decimal row ++ codes "\n"
 code_fault_line NoMemory = []

@@ -18,7 +18,8 @@ use Rattle.fx_files.specs.declared.formats.OutputFormat.{OutputFormat}
 abbrev pub head_lines : Filter → List ℕ
 head_lines f =
     codes "form " ++ form_text (form_of f.coefficients) ++ codes "\nstructure " ++ structure_text f.settings.structure
-    ++ codes "\naccumulator " ++ decimal f.settings.accumulator ++ codes "\nword " ++ decimal f.settings.word ++ codes "\n"
+    ++ codes "\naccumulator " ++ decimal f.settings.accumulator
+    ++ codes "\nword " ++ decimal f.settings.word ++ codes "\n"
 
 -- ---- inputs and outputs
 
@@ -65,7 +66,8 @@ sum_text [] = codes "0"
 sum_text (t ∷ ts) = join_by term_text (codes "; ") (t ∷ ts)
 
 abbrev pub row_line : List Term → ℕ → List ℕ
-row_line terms row = codes "row " ++ decimal row ++ codes ": " ++ sum_text (terms_of row terms) ++ codes "\n"
+row_line terms row =
+    codes "row " ++ decimal row ++ codes ": " ++ sum_text (terms_of row terms) ++ codes "\n"
 
 -- the lines of the rows before this one
 abbrev pub rows_before : List Term → ℕ → List ℕ

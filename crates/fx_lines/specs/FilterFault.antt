@@ -6,6 +6,7 @@ use Rattle.fx_decimal.specs.declared.fault.DecimalFault.TheVariants.{Empty, BadB
 use Rattle.fx_keys.specs.Keys.{name_of}
 use Rattle.fx_keys.specs.declared.fault.FilterFault.{FilterFault}
 use Rattle.fx_keys.specs.declared.fault.FilterFault.TheVariants.{NotToml, Missing, WrongKind, Numeral, NotMonic, Shape, Limit, UnknownKey, UnknownWord, NoMemory}
+use Rattle.fx_lines.specs.UnknownKey.{shown_key}
 
 -- why a text is no numeral
 abbrev pub numeral_fault_text : DecimalFault → List ℕ
@@ -21,12 +22,16 @@ filter_fault_line NotToml = codes "bad filter not toml\n"
 filter_fault_line (Missing key) = codes "bad filter missing " ++ name_of key ++ codes "\n"
 filter_fault_line (WrongKind key) = codes "bad filter wrong kind " ++ name_of key ++ codes "\n"
 filter_fault_line (Numeral key place fault) =
-    codes "bad filter numeral " ++ name_of key ++ codes " " ++ decimal place ++ codes " " ++ numeral_fault_text fault ++ codes "\n"
-filter_fault_line (NotMonic key place) = codes "bad filter not monic " ++ name_of key ++ codes " " ++ decimal place ++ codes "\n"
+    codes "bad filter numeral " ++ name_of key ++ codes " " ++ decimal place ++ codes " "
+    ++ numeral_fault_text fault ++ codes "\n"
+filter_fault_line (NotMonic key place) =
+    codes "bad filter not monic " ++ name_of key ++ codes " " ++ decimal place ++ codes "\n"
 filter_fault_line (Shape key got wanted) =
-    codes "bad filter shape " ++ name_of key ++ codes " " ++ decimal got ++ codes " " ++ decimal wanted ++ codes "\n"
+    codes "bad filter shape " ++ name_of key ++ codes " " ++ decimal got ++ codes " "
+    ++ decimal wanted ++ codes "\n"
 filter_fault_line (Limit key got limit) =
-    codes "bad filter limit " ++ name_of key ++ codes " " ++ signed_decimal got ++ codes " " ++ signed_decimal limit ++ codes "\n"
-filter_fault_line (UnknownKey text) = codes "bad filter unknown key " ++ text ++ codes "\n"
+    codes "bad filter limit " ++ name_of key ++ codes " " ++ signed_decimal got ++ codes " "
+    ++ signed_decimal limit ++ codes "\n"
+filter_fault_line (UnknownKey key) = codes "bad filter unknown key " ++ shown_key key ++ codes "\n"
 filter_fault_line (UnknownWord key) = codes "bad filter unknown word " ++ name_of key ++ codes "\n"
 filter_fault_line NoMemory = []

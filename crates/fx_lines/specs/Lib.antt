@@ -1,4 +1,6 @@
 pub mod CodeFault
 pub mod Filter
 pub mod FilterFault
+pub mod Laws
 pub mod SampleFault
+pub mod UnknownKey

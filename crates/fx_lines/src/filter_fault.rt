@@ -5,8 +5,10 @@ ghost use Rattle.std.specs.Fmt.{decimal};
 ghost use Rattle.fx_keys.specs.Keys.{name_of};
 ghost use Rattle.fx_keys.specs.declared.fault.FilterFault.TheVariants.{Limit, NotMonic, Numeral, Shape, UnknownKey};
 ghost use Rattle.fx_lines.specs.FilterFault.{filter_fault_line, numeral_fault_text};
+ghost use Rattle.fx_lines.specs.Laws.{OneLine};
 
 use crate::pieces::{put_field, put_word};
+use crate::unknown_key::put_key;
 use fx_decimal::DecimalFault;
 use fx_files::{FilterFault, Key, KeyText};
 use std::alloc::{AllocError, Global};
@@ -98,12 +100,12 @@ fn limit(alloc: Global, key: Key, got: i64, end: i64) -> Result<Vec<u8>, AllocEr
     Ok(text)
 }
 
-// A key byte for byte as the file has it.
+// A key as the file has it, its control bytes escaped.
 fn unknown_key(alloc: Global, key: &KeyText) -> Result<Vec<u8>, AllocError>
     ensures { IfOk result (λ t. t.items ≡ filter_fault_line (UnknownKey key.now)) }
 {
     let mut text = Vec::from_slice(alloc, b"bad filter unknown key ")?;
-    text.extend_from_slice(key.bytes())?;
+    put_key(&mut text, key.bytes())?;
     put_word(&mut text, "\n")?;
     Ok(text)
 }
@@ -125,3 +127,9 @@ pub fn filter_fault_line(alloc: Global, fault: &FilterFault) -> Result<Vec<u8>, 
         FilterFault::NoMemory => Ok(Vec::new(alloc)),
     }
 }
+
+/// A law with nothing to run: whatever is wrong in a filter file, one line tells it, with no control
+/// byte before its line feed.
+pub fn filter_faults_are_one_line()
+    ensures { OneLine }
+{}

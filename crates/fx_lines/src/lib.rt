@@ -8,8 +8,9 @@ mod sample_fault;
 mod shown;
 #[cfg(test)]
 mod tests;
+mod unknown_key;
 
 pub use code_fault::code_fault_line;
-pub use filter_fault::filter_fault_line;
+pub use filter_fault::{filter_fault_line, filter_faults_are_one_line};
 pub use sample_fault::sample_fault_line;
 pub use shown::shown_filter;

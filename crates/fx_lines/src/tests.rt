@@ -82,13 +82,26 @@ fn filter_faults_have_their_lines(rt: HostRuntime) -> Result<(), Fail> {
 
 // The letter with an accent is two bytes.
 #[test]
-fn an_unknown_key_is_put_byte_for_byte(rt: HostRuntime) -> Result<(), Fail> {
+fn an_unknown_key_keeps_its_letters(rt: HostRuntime) -> Result<(), Fail> {
     let Err(fault) = read_filter(rt.alloc(), "form = \"tf\"\n\"é z\" = 1\n".as_bytes()) else {
         return Err(Fail::from("refused"));
     };
     assert_eq!(rt;
         filter_fault_line(rt.alloc(), &fault)?.as_slice(),
         "bad filter unknown key é z\n".as_bytes()
+    );
+    Ok(())
+}
+
+#[test]
+fn an_unknown_key_stays_within_its_line(rt: HostRuntime) -> Result<(), Fail> {
+    let text = b"form = \"tf\"\n\"x\\naccepted\\nerror 0 0.000000000\\u007f\" = 1\n".as_slice();
+    let Err(fault) = read_filter(rt.alloc(), text) else {
+        return Err(Fail::from("refused"));
+    };
+    assert_eq!(rt;
+        filter_fault_line(rt.alloc(), &fault)?.as_slice(),
+        b"bad filter unknown key x\\x0Aaccepted\\x0Aerror 0 0.000000000\\x7F\n".as_slice()
     );
     Ok(())
 }

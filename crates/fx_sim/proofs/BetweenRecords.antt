@@ -89,6 +89,6 @@ done p bytes a reader number text m none =
     let all : samples_in p.inputs bytes ≡ Ok m.list = sym m.reads ∙ rw none (ap (λ (l : List (List ℤ)). Ok l) (append-nil m.list)) in
     rw (all, m.put) refl
 
--- the front of four zeros
-pub front_of_four : (n : ℕ) → n ≤ 4 → length (take n (pos 0 ∷ pos 0 ∷ pos 0 ∷ pos 0 ∷ [])) ≡ n
-front_of_four n few = omega (arith, length-take n (pos 0 ∷ pos 0 ∷ pos 0 ∷ pos 0 ∷ []))
+-- the front of as many zeros as there may be inputs
+pub front_of_ports : (n : ℕ) → n ≤ 4 → length (take n (pos 0 ∷ pos 0 ∷ pos 0 ∷ pos 0 ∷ [])) ≡ n
+front_of_ports n few = omega (arith, length-take n (pos 0 ∷ pos 0 ∷ pos 0 ∷ pos 0 ∷ []))

@@ -16,6 +16,7 @@ use crate::record::{next_record, text_reader};
 use crate::text::put_line;
 use csv::ByteRecord;
 use fx_code::{Program, words_read_no_later_inputs};
+use fx_eqs::PORTS;
 use fx_machine::Machine;
 use std::alloc::{AllocError, Global};
 
@@ -45,15 +46,15 @@ fn put_moment(
 ///
 /// The error is the first fault in the order of the records: of one record the count of its fields comes first, then
 /// column by column. `NoMemory` is no fault of the samples.
-#[tactic(auto, using(crate::proofs::BetweenRecords::begins, crate::proofs::BetweenRecords::front_of_four))]
+#[tactic(auto, using(crate::proofs::BetweenRecords::begins, crate::proofs::BetweenRecords::front_of_ports))]
 pub fn simulate(alloc: Global, program: &Program, samples: &[u8]) -> Result<Vec<u8>, SampleFault>
     requires { IsWhole program.now }
     ensures { Gives is_memory (λ text. text.items) result (simulation program.now samples.now) }
 {
     words_read_no_later_inputs();
     let mut machine = Machine::new(alloc, program)?;
-    let mut words = [0i64; 4];
-    let mut results = [0i64; 4];
+    let mut words = [0i64; PORTS];
+    let mut results = [0i64; PORTS];
     let input = &mut words[..program.inputs()];
     let output = &mut results[..program.outputs().len()];
     let mut text = Vec::new(alloc);

@@ -5,6 +5,7 @@ use Rattle.std.specs.List.{list_any}
 use Rattle.std.specs.Str.{bytes_eq}
 use Rattle.fx_math.specs.Words.{is_accumulator}
 use Rattle.fx_math.specs.declared.words.TheConstants.{GREATEST_WIDTH, LEAST_WIDTH}
+use Rattle.fx_eqs.specs.declared.limits.TheConstants.{PORTS}
 use Rattle.fx_code.specs.declared.limits.TheConstants.{CODE_ROWS, COEFFICIENT_BITS, LONGEST_SHIFT}
 use Rattle.fx_code.specs.Code.{Row, Code, half_place}
 use Rattle.fx_code.specs.Limits.{same_source, start_fault, row_fault, output_fault}
@@ -36,9 +37,9 @@ unfoldable pub head_at : List ℕ → ℕ → Result (Head × ℕ) CodeFault
 head_at text at = do
   a ← pair_at (codes "STEP") (codes "(") text at
   accumulator ← accumulator_at text a
-  inputs ← next_at Inputs 1 4 text accumulator.1
+  inputs ← next_at Inputs 1 PORTS text accumulator.1
   rows ← next_at Rows 1 CODE_ROWS text inputs.1
-  outputs ← next_at Outputs 1 4 text rows.1
+  outputs ← next_at Outputs 1 PORTS text rows.1
   b ← pair_at (codes ")") (codes "{") text outputs.1
   Ok (record { accumulator = accumulator.0; inputs = inputs.0; rows = rows.0; outputs = outputs.0 }, b)
 

@@ -11,6 +11,7 @@ use crate::token::{
     token_at,
 };
 use fx_code::{CODE_ROWS, LimitOf};
+use fx_eqs::PORTS;
 use fx_math::{ACCUMULATORS, GREATEST_WIDTH, LEAST_WIDTH};
 
 /// What the head of a text says.
@@ -18,11 +19,11 @@ use fx_math::{ACCUMULATORS, GREATEST_WIDTH, LEAST_WIDTH};
 pub struct Head {
     /// Bits of the accumulators, one of `ACCUMULATORS`.
     pub accumulator: u8,
-    /// How many inputs there are: 1 to 4.
+    /// How many inputs there are: 1 to `PORTS`.
     pub inputs: u8,
     /// How many rows there are: 1 to `CODE_ROWS`.
     pub rows: u8,
-    /// How many outputs there are: 1 to 4.
+    /// How many outputs there are: 1 to `PORTS`.
     pub outputs: u8,
 }
 
@@ -46,13 +47,13 @@ fn accumulator_at(text: &[u8], at: usize) -> Result<(u8, usize), CodeFault>
 pub fn head_at(text: &[u8], at: usize) -> Result<(Head, usize), CodeFault>
     requires { at ≤ length text.now }
     ensures gives { Gives is_memory (λ h. h) result (head_at text.now at) }
-    ensures within { IfOk result (λ h. (h.0.inputs ≤ 4) × (h.1 ≤ length text.now)) }
+    ensures within { IfOk result (λ h. (h.0.inputs ≤ PORTS) × (h.1 ≤ length text.now)) }
 {
     let at = pair_at(text, at, b"STEP", b"(")?;
     let (accumulator, at) = accumulator_at(text, at)?;
-    let (inputs, at) = next_at(text, at, LimitOf::Inputs, 1, 4)?;
+    let (inputs, at) = next_at(text, at, LimitOf::Inputs, 1, PORTS as u8)?;
     let (rows, at) = next_at(text, at, LimitOf::Rows, 1, CODE_ROWS as u8)?;
-    let (outputs, at) = next_at(text, at, LimitOf::Outputs, 1, 4)?;
+    let (outputs, at) = next_at(text, at, LimitOf::Outputs, 1, PORTS as u8)?;
     let at = pair_at(text, at, b")", b"{")?;
     let head = Head {
         accumulator,

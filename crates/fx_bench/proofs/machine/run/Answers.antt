@@ -1,5 +1,6 @@
 use Rattle.std.proofs.Common.{rules, ◌≡◌, ◌∙◌, ◌+◌, [], ◌∷◌, ◌++◌, length, w16, w64, FitsSigned, to_z, of_z, to_z-of_z, refl, sym, ap}
-use Rattle.fx_bench.specs.Runs.{drawn, low_bits, mixed, moments, next_seed, put_word, seed_before, words_sum}
+use Rattle.fx_bench.specs.Checksum.{mixed}
+use Rattle.fx_bench.specs.Runs.{drawn, low_bits, moments, next_seed, put_word, seed_before, words_sum}
 use Rattle.fx_bench.proofs.Fed.{seed_after, moments_after, moments_count, sum_after}
 use Rattle.fx_bench.proofs.machine.run.Goals as goal
 
