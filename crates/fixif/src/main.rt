@@ -1,8 +1,12 @@
 //! The program: judges certified fixed-point code for linear filters, shows filter files, and runs code on samples.
 #![tactic(auto)]
 
-use fx_io::{DiskShelf, StdoutSink};
-use fx_tool::run;
+ghost use Rattle.fx_tool.specs.Command.{texts};
+ghost use Rattle.fx_tool.specs.Running.{CanRead};
+ghost use Rattle.fixif.specs.Ending.{EndsRun};
+
+use fx_io::{DiskShelf, Shelf, Sink, StdoutSink};
+use fx_tool::{NO_WORDS, Status, run};
 use std::alloc::Global;
 use std::env;
 use std::io::ErrorKind;
@@ -16,11 +20,11 @@ enum NoWords {
 }
 
 impl NoWords {
-    /// The status that the program ends with, as no command was run.
+    /// The number that the program ends with, as no command was run.
     fn number(self) -> u8 {
         match self {
-            NoWords::Memory => 12,
-            NoWords::Other => 14,
+            NoWords::Memory => Status::NoMemory.number(),
+            NoWords::Other => NO_WORDS,
         }
     }
 }
@@ -40,6 +44,21 @@ fn words<R: Env + AllocGlobal>(rt: &R, alloc: Global) -> Result<Vec<String>, NoW
     Ok(words)
 }
 
+/// Runs a command line, and ends with the number of its status.
+fn end_of_run<S: Shelf, K: Sink>(
+    alloc: Global,
+    words: &[String],
+    shelf: &mut S,
+    out: &mut K,
+) -> ExitCode
+    requires { CanRead (S.seen shelf.old) (texts words.now) }
+    ensures { EndsRun (texts words.now) (S.seen shelf.old) (S.seen shelf.new)
+        (K.seen out.old) (K.seen out.new) result }
+{
+    let status = run(alloc, words, shelf, out);
+    ExitCode::from(status.number())
+}
+
 fn main(rt: HostRuntime) -> ExitCode {
     let words = match words(&rt, rt.alloc()) {
         Ok(words) => words,
@@ -47,6 +66,5 @@ fn main(rt: HostRuntime) -> ExitCode {
     };
     let mut shelf = DiskShelf::new(&rt);
     let mut out = StdoutSink::new(&rt);
-    let status = run(rt.alloc(), &words, &mut shelf, &mut out);
-    ExitCode::from(status.number())
+    end_of_run(rt.alloc(), &words, &mut shelf, &mut out)
 }

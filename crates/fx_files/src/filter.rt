@@ -11,9 +11,9 @@ ghost use Rattle.fx_files.specs.Forms.{own_keys};
 
 use crate::coefficients::Coefficients;
 use crate::formats::{InputFormat, OutputFormat};
+use crate::forms::{Form, Structure};
 use crate::ports::Inputs;
 use crate::settings::Settings;
-use crate::forms::{Form, Structure};
 use fx_eqs::{Eqs, PORTS};
 use fx_keys::{Key, LOWS};
 use fx_nums::Frac;

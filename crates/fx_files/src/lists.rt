@@ -64,11 +64,7 @@ fn polynomial_of(alloc: Global, table: &Table, key: Key) -> Result<Vec<Frac>, Fi
 }
 
 // Numerator and denominator of a transfer function.
-#[tactic(
-    auto,
-    unfolding(crate::specs::Lists::transfer_in),
-    using(crate::proofs::ListsOverTen::both_over_ten)
-)]
+#[tactic(auto, unfolding(crate::specs::Lists::transfer_in), using(crate::proofs::ListsOverTen::both_over_ten))]
 fn transfer_of(alloc: Global, table: &Table) -> Result<Coefficients, FilterFault>
     ensures gives { Gives is_memory (λ c. c) result (transfer_in (table_view table.now)) }
     ensures fits { IfOk result AlwaysFit }
@@ -132,11 +128,7 @@ fn matrix_at(
 }
 
 // The matrices of a state space.
-#[tactic(
-    auto,
-    unfolding(crate::specs::Lists::space_in),
-    using(crate::proofs::ListsOverTen::four_over_ten)
-)]
+#[tactic(auto, unfolding(crate::specs::Lists::space_in), using(crate::proofs::ListsOverTen::four_over_ten))]
 fn space_of(
     alloc: Global,
     table: &Table,
@@ -186,11 +178,7 @@ fn taps_of(alloc: Global, table: &Table, order: usize) -> Result<Vec<Frac>, Filt
 }
 
 // Reflection coefficients and taps of a lattice.
-#[tactic(
-    auto,
-    unfolding(crate::specs::Lists::ladder_in),
-    using(crate::proofs::ListsOverTen::both_over_ten)
-)]
+#[tactic(auto, unfolding(crate::specs::Lists::ladder_in), using(crate::proofs::ListsOverTen::both_over_ten))]
 fn ladder_of(alloc: Global, table: &Table) -> Result<Coefficients, FilterFault>
     ensures gives { Gives is_memory (λ c. c) result (ladder_in (table_view table.now)) }
     ensures fits { IfOk result AlwaysFit }

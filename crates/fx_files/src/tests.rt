@@ -167,22 +167,13 @@ fn every_fault_is_told(rt: HostRuntime) -> Result<(), Fail> {
             "UnknownKey(KeyText { text: [98] })",
         ),
         ("form = \"tf\"\nb = [7, \"-\"]", "Numeral(B, 1, Empty)"),
-        (
-            "form = \"tf\"\nb = [\"7;\"]",
-            "Numeral(B, 0, BadByte(1))",
-        ),
+        ("form = \"tf\"\nb = [\"7;\"]", "Numeral(B, 0, BadByte(1))"),
         (
             "form = \"tf\"\nb = [1234567890123456789]",
             "Numeral(B, 0, TooManyDigits)",
         ),
-        (
-            "form = \"tf\"\nb = [\"1e-29\"]",
-            "Numeral(B, 0, TooFine)",
-        ),
-        (
-            "form = \"tf\"\nb = [16777216]",
-            "Numeral(B, 0, TooLarge)",
-        ),
+        ("form = \"tf\"\nb = [\"1e-29\"]", "Numeral(B, 0, TooFine)"),
+        ("form = \"tf\"\nb = [16777216]", "Numeral(B, 0, TooLarge)"),
         ("form = \"tf\"\nb = [7]\na = [2]", "NotMonic(A, 0)"),
         ("form = \"tf\"\nb = []\na = [1]", "Shape(B, 0, 1)"),
         (

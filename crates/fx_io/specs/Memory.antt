@@ -1,9 +1,10 @@
 -- What the forms in memory stand for.
-use Rattle.std.specs.Prelude.{ℕ, ◌+◌, ◌-◌, ◌^◌, suc, zero, Bool, ◌==◌, ◌&&◌, ◌||◌, not, nat_lt, List, [], ◌∷◌, ◌++◌, if◌then◌else◌, refl}
+use Rattle.std.specs.Prelude.{ℕ, ◌+◌, ◌-◌, ◌^◌, suc, zero, Bool, ◌==◌, ◌&&◌, ◌||◌, not, nat_lt, List, [], ◌∷◌, ◌++◌, Some, true, if◌then◌else◌, refl}
 use Rattle.std.specs.List.{list_any}
 use Rattle.std.specs.FinMap as map
 use Rattle.std.specs.Coded.{Coded, code_by, coded×, coded_ℕ, coded_list}
 use Rattle.fx_io.specs.Causes.{saturated}
+use Rattle.fx_io.specs.Outside.{Outside, Output}
 use Rattle.fx_io.specs.Shelf.{Files}
 
 -- the calls of one kind: the numbers that are to fail, and how many were made
@@ -85,3 +86,31 @@ read_fault_count s = saturated (fault_count s.reads + s.absences)
 -- reads and placings together
 abbrev pub calls_made : ShelfState → ℕ
 calls_made s = saturated (s.reads.made + s.places.made)
+
+-- each name may be read
+abbrev pub seen_of_shelf : ShelfState → Outside
+seen_of_shelf s = record {
+  files = Some s.files;
+  read_faults = read_fault_count s;
+  place_faults = fault_count s.places;
+  calls = calls_made s;
+  readable = λ _. true;
+}
+
+abbrev pub seen_of_sink : SinkState → Output
+seen_of_sink s = record { told = Some s.bytes; faults = fault_count s.puts }
+
+-- ---- without faults
+
+-- a name may be read where it is there
+abbrev pub seen_of_files : Files → Outside
+seen_of_files files = record {
+  files = Some files;
+  read_faults = 0;
+  place_faults = 0;
+  calls = 0;
+  readable = map.contains_key files;
+}
+
+abbrev pub seen_of_bytes : List ℕ → Output
+seen_of_bytes bytes = record { told = Some bytes; faults = 0 }

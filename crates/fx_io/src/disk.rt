@@ -1,9 +1,10 @@
-// The edge: real files and standard output. They tell no contents.
-ghost use Rattle.std.specs.Prelude.{◌≡◌, ◌↔◌, None, true, IfOk, IfErr, IsErrAnd, ◌≤◌, length};
+// The edge: real files and standard output. They tell no contents. What a call of the runtime
+// answered becomes the answer of the shelf or the sink by `counted`, `placed` and `taken`.
+ghost use Rattle.std.specs.Prelude.{◌≡◌, ◌+◌, ◌<◌, ◌≤◌, IfOk, IfErr, OnOk, OnErr, length};
 ghost use Rattle.std.specs.IoError.{error_kind};
-ghost use Rattle.std.specs.declared.io.ErrorKind.TheVariants.{OutOfMemory};
-ghost use Rattle.fx_io.specs.declared.shelf.IoFault.TheVariants.{NoMemory};
-ghost use Rattle.fx_io.specs.Causes.{HasCause, count_after};
+ghost use Rattle.std.specs.Io.KnownBytes.{Appends};
+ghost use Rattle.fx_io.specs.Causes.{saturated, CountsWrite, HasCause, IsCounted, TellsError};
+ghost use Rattle.fx_io.specs.Outside.{files_untold, output_untold};
 
 use crate::shelf::{IoFault, Shelf, Sink};
 use std::io::{ErrorKind, Read, Seek, SeekFrom, Write};
@@ -11,22 +12,73 @@ use std::marker::Model;
 use std::rt::Files;
 use std::{fs, io};
 
+// Counts a failure.
+fn count_failure(faults: &mut u64)
+    ensures counted { faults.new ≡ saturated (faults.old + 1) }
+    ensures later { faults.old ≤ faults.new }
+{
+    *faults = faults.saturating_add(1);
+}
+
 // What the system answered, with its error as a fault. Want of memory is not counted, and every
 // other error is.
 fn counted<T>(answer: io::Result<T>, faults: &mut u64) -> Result<T, IoFault>
     ensures done { IfOk answer (λ value. (result ≡ Ok value) × (faults.new ≡ faults.old)) }
-    ensures refused { IfErr answer (λ error. IsErrAnd result (λ fault.
-        ((fault ≡ NoMemory) ↔ (error_kind error ≡ OutOfMemory)) × (faults.new ≡ count_after fault faults.old))) }
+    ensures refused { IfErr answer (λ error. TellsError (error_kind error) faults.old faults.new result) }
     ensures cause { HasCause faults.old faults.new result }
 {
     match answer {
         Ok(value) => Ok(value),
         Err(error) if error.kind() == ErrorKind::OutOfMemory => Err(IoFault::NoMemory),
         Err(_) => {
-            *faults = faults.saturating_add(1);
+            count_failure(faults);
             Err(IoFault::Failed)
         }
     }
+}
+
+// What the writing of a file answered. The file was emptied before, so an error, whatever its kind,
+// is a failed placing.
+fn placed(answer: io::Result<()>, faults: &mut u64) -> Result<(), IoFault>
+    ensures done { OnOk answer ((result ≡ Ok tt) × (faults.new ≡ faults.old)) }
+    ensures refused { OnErr answer (IsCounted faults.old faults.new result) }
+    ensures cause { HasCause faults.old faults.new result }
+{
+    if answer.is_err() {
+        count_failure(faults);
+        return Err(IoFault::Failed);
+    }
+    Ok(())
+}
+
+// What a write of bytes answered: one that took none of them is a failed write.
+fn taken(answer: io::Result<usize>, faults: &mut u64) -> Result<usize, IoFault>
+    ensures some { IfOk answer (λ n. 0 < n → (result ≡ Ok n) × (faults.new ≡ faults.old)) }
+    ensures none { IfOk answer (λ n. n ≡ 0 → IsCounted faults.old faults.new result) }
+    ensures refused { IfErr answer (λ error. TellsError (error_kind error) faults.old faults.new result) }
+    ensures cause { CountsWrite faults.old faults.new result }
+{
+    let n = counted(answer, faults)?;
+    if n == 0 {
+        count_failure(faults);
+        return Err(IoFault::Failed);
+    }
+    Ok(n)
+}
+
+// Writes all of the bytes: a short write goes on.
+fn write_whole<W: Write>(file: &mut W, bytes: &[u8]) -> io::Result<()>
+    ensures { OnOk result (Appends (W.contents file.old) (W.contents file.new) bytes.now) }
+{
+    file.write_all(bytes)
+}
+
+fn read_file<R: Files>(rt: &R, name: &str, from: u64, into: &mut [u8]) -> io::Result<usize>
+    ensures { IfOk result (λ n. n ≤ length into.new) }
+{
+    let mut file = fs::open(rt, name)?;
+    file.seek(SeekFrom::Start(from))?;
+    file.read(into)
 }
 
 /// Files of the file system. Every name may be tried.
@@ -58,24 +110,8 @@ impl<'r, R: Files> DiskShelf<'r, R> {
     }
 }
 
-fn read_file<R: Files>(rt: &R, name: &str, from: u64, into: &mut [u8]) -> io::Result<usize>
-    ensures { IfOk result (λ n. n ≤ length into.new) }
-{
-    let mut file = fs::open(rt, name)?;
-    file.seek(SeekFrom::Start(from))?;
-    file.read(into)
-}
-
 impl<'r, R: Files> Shelf for DiskShelf<'r, R> {
-    ghost files = { λ _. None };
-
-    ghost read_faults = { λ s. s.read_faults };
-
-    ghost place_faults = { λ s. s.place_faults };
-
-    ghost calls = { λ _. 0 };
-
-    ghost readable = { λ _ _. true };
+    ghost seen = { files_untold };
 
     fn read_at(&mut self, name: &str, from: u64, into: &mut [u8]) -> Result<usize, IoFault> {
         counted(read_file(self.rt, name, from, into), &mut self.read_faults)
@@ -83,12 +119,7 @@ impl<'r, R: Files> Shelf for DiskShelf<'r, R> {
 
     fn place(&mut self, name: &str, bytes: &[u8]) -> Result<(), IoFault> {
         let mut file = counted(fs::create(self.rt, name), &mut self.place_faults)?;
-        // The file is empty by now, so an error is a failed placing, whatever its kind.
-        if file.write_all(bytes).is_err() {
-            self.place_faults = self.place_faults.saturating_add(1);
-            return Err(IoFault::Failed);
-        }
-        Ok(())
+        placed(write_whole(&mut file, bytes), &mut self.place_faults)
     }
 }
 
@@ -117,15 +148,9 @@ impl<'r, R: Print> StdoutSink<'r, R> {
 }
 
 impl<'r, R: Print> Sink for StdoutSink<'r, R> {
-    ghost told = { λ _. None };
-
-    ghost faults = { λ s. s };
+    ghost seen = { output_untold };
 
     fn put(&mut self, bytes: &[u8]) -> Result<usize, IoFault> {
-        let n = counted(self.rt.write_some(bytes), &mut self.faults)?;
-        if n == 0 {
-            self.faults = self.faults.saturating_add(1);
-        }
-        Ok(n)
+        taken(self.rt.write_some(bytes), &mut self.faults)
     }
 }

@@ -3,7 +3,7 @@ ghost use Rattle.std.specs.Prelude.{◌≡◌, ◌++◌, ◌↔◌, [], min, Som
 ghost use Rattle.std.specs.FinMap as map;
 ghost use Rattle.fx_io.specs.declared.shelf.IoFault.TheVariants.{Failed};
 ghost use Rattle.fx_io.specs.Shelf.{ReadsPiece};
-ghost use Rattle.fx_io.specs.Memory.{no_calls, with_failing, next_fails, counted, fault_count, read_fails, after_read, read_fault_count, calls_made};
+ghost use Rattle.fx_io.specs.Memory.{no_calls, with_failing, next_fails, counted, read_fails, after_read, seen_of_shelf, seen_of_sink};
 
 use crate::call_plan::CallPlan;
 use crate::file_list::{FileList, copy_piece};
@@ -86,15 +86,7 @@ impl MemShelf {
 }
 
 impl Shelf for MemShelf {
-    ghost files = { λ s. Some s.files };
-
-    ghost read_faults = { read_fault_count };
-
-    ghost place_faults = { λ s. fault_count s.places };
-
-    ghost calls = { calls_made };
-
-    ghost readable = { λ _ _. true };
+    ghost seen = { seen_of_shelf };
 
     fn read_at(&mut self, name: &str, from: u64, into: &mut [u8]) -> Result<usize, IoFault>
         ensures fails { IsErr result ↔ IsTrue (read_fails self.old name.now) }
@@ -128,7 +120,7 @@ impl Shelf for MemShelf {
         if self.places.next() {
             return Err(IoFault::Failed);
         }
-        self.add(name, bytes).map_err(|_| IoFault::NoMemory)
+        Ok(self.add(name, bytes)?)
     }
 }
 
@@ -185,9 +177,7 @@ impl MemSink {
 }
 
 impl Sink for MemSink {
-    ghost told = { λ s. Some s.bytes };
-
-    ghost faults = { λ s. fault_count s.puts };
+    ghost seen = { seen_of_sink };
 
     fn put(&mut self, bytes: &[u8]) -> Result<usize, IoFault>
         ensures fails { IsErrOf result Failed ↔ IsTrue (next_fails self.old.puts) }
@@ -198,9 +188,7 @@ impl Sink for MemSink {
         if self.puts.next() {
             return Err(IoFault::Failed);
         }
-        match self.bytes.extend_from_slice(bytes) {
-            Ok(()) => Ok(bytes.len()),
-            Err(_) => Err(IoFault::NoMemory),
-        }
+        self.bytes.extend_from_slice(bytes)?;
+        Ok(bytes.len())
     }
 }

@@ -2,6 +2,7 @@
 ghost use Rattle.std.specs.Prelude.{◌≡◌, ◌++◌, Some, [], IsTrue, IfOk, OnOk, OnErr, IsOkAnd, IsSomeAnd, IsOkUnless, min, drop, length};
 ghost use Rattle.std.specs.FinMap as map;
 ghost use Rattle.fx_io.specs.declared.shelf.IoFault.TheVariants.{NoMemory};
+ghost use Rattle.fx_io.specs.Memory.{seen_of_bytes, seen_of_files};
 ghost use Rattle.fx_io.specs.Shelf.{ReadsPiece, KeepsNames};
 
 use crate::file_list::{FileList, copy_piece};
@@ -56,15 +57,7 @@ impl SureShelf {
 }
 
 impl Shelf for SureShelf {
-    ghost files = { λ s. Some s };
-
-    ghost read_faults = { λ _. 0 };
-
-    ghost place_faults = { λ _. 0 };
-
-    ghost calls = { λ _. 0 };
-
-    ghost readable = { map.contains_key };
+    ghost seen = { seen_of_files };
 
     fn read_at(&mut self, name: &str, from: u64, into: &mut [u8]) -> Result<usize, IoFault>
         requires { IsTrue (map.contains_key self.old name.now) }
@@ -86,7 +79,7 @@ impl Shelf for SureShelf {
         ensures memory { IsOkUnless result NoMemory }
         ensures readable { KeepsNames (map.contains_key self.old) (map.contains_key self.new) }
     {
-        self.add(name, bytes).map_err(|_| IoFault::NoMemory)
+        Ok(self.add(name, bytes)?)
     }
 }
 
@@ -127,18 +120,14 @@ impl SureSink {
 }
 
 impl Sink for SureSink {
-    ghost told = { λ s. Some s };
-
-    ghost faults = { λ _. 0 };
+    ghost seen = { seen_of_bytes };
 
     fn put(&mut self, bytes: &[u8]) -> Result<usize, IoFault>
         ensures done { IfOk result (λ n. (n ≡ length bytes.now) × (self.new ≡ self.old ++ bytes.now)) }
         ensures err { OnErr result (self.new ≡ self.old) }
         ensures memory { IsOkUnless result NoMemory }
     {
-        match self.bytes.extend_from_slice(bytes) {
-            Ok(()) => Ok(bytes.len()),
-            Err(_) => Err(IoFault::NoMemory),
-        }
+        self.bytes.extend_from_slice(bytes)?;
+        Ok(bytes.len())
     }
 }

@@ -7,7 +7,7 @@ use std::test::Fail;
 
 // Reads from place 1 of a file, places what was read as `copy`, and puts it.
 fn pass_on<S: Shelf, K: Sink>(shelf: &mut S, out: &mut K, name: &str) -> Result<usize, IoFault>
-    requires { IsTrue (S.readable shelf.old name.now) }
+    requires { IsTrue ((S.seen shelf.old).readable name.now) }
 {
     let mut buffer = [0u8; 4];
     let n = shelf.read_at(name, 1, &mut buffer)?;
@@ -75,11 +75,26 @@ fn disk_and_output_are_reached(rt: HostRuntime) -> Result<(), Fail> {
     assert_eq!(rt; shelf.read_at("copy", 2, &mut buffer), Ok(2));
     assert_eq!(rt; &buffer[..2], b"na".as_slice());
     assert_eq!(rt; shelf.read_at("f", 7, &mut buffer), Ok(0));
-    assert_eq!(rt;
-        shelf.read_at("absent", 0, &mut buffer),
-        Err(IoFault::Failed)
-    );
+    assert_eq!(rt; shelf.place("f", b""), Ok(()));
+    assert_eq!(rt; shelf.read_at("f", 0, &mut buffer), Ok(0));
+    // A name that is not there, a folder, and a file whose first bytes nobody can read.
+    for name in ["absent", "/", "/proc/self/mem"] {
+        assert_eq!(rt; shelf.read_at(name, 0, &mut buffer), Err(IoFault::Failed));
+    }
+    assert_eq!(rt; shelf.place("/", b"signal"), Err(IoFault::Failed));
     fs::remove_file(&rt, "f")?;
     fs::remove_file(&rt, "copy")?;
+    Ok(())
+}
+
+#[test]
+fn long_contents_are_placed_whole(rt: HostRuntime) -> Result<(), Fail> {
+    let mut shelf = DiskShelf::new(&rt);
+    let content = vec![in rt.alloc(); 7u8; 200_000]?;
+    let mut buffer = vec![in rt.alloc(); 0u8; 200_001]?;
+    assert_eq!(rt; shelf.place("long", &content), Ok(()));
+    assert_eq!(rt; shelf.read_at("long", 0, &mut buffer), Ok(200_000));
+    assert_eq!(rt; &buffer[..200_000], content.as_slice());
+    fs::remove_file(&rt, "long")?;
     Ok(())
 }

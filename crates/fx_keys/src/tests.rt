@@ -46,8 +46,14 @@ fn whole_numbers_have_limits(rt: HostRuntime) -> Result<(), Fail> {
     let table = table_of(rt.alloc(), b"accumulator = 100000")
         .ok()
         .ok_or("read")?;
-    assert_eq!(rt; integer_or(&table, Key::Accumulator, None).ok(), Some(100000));
-    assert_eq!(rt; integer_or(&table, Key::Word, Some(LOWS.high)).ok(), Some(63));
+    assert_eq!(rt;
+        integer_or(&table, Key::Accumulator, None).ok(),
+        Some(100000)
+    );
+    assert_eq!(rt;
+        integer_or(&table, Key::Word, Some(LOWS.high)).ok(),
+        Some(63)
+    );
     Ok(())
 }
 

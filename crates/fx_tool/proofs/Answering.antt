@@ -1,99 +1,136 @@
--- What a run gives, from status to status.
-use Rattle.std.proofs.Common.{◌≡◌, inl, inr, ℕ, nat_le, Bool, true, false, cond, IsTrue, List, [], length, codes, Option, Some, None, Result, Ok, Err, refl, sym, ap, subst, ◌∙◌}
+-- What the answers of the plans have in common, and what a run gives of them that fails before its text.
+use Rattle.std.proofs.Common.{◌≡◌, ◌⊎◌, inl, inr, ℕ, nat_le, Bool, true, false, cond, IsTrue, List, [], ◌∷◌, length, Option, Some, None, Result, Ok, Err, refl, sym, ap, subst, ◌∙◌}
 use Rattle.std.proofs.lemmas.List.{append-nil}
 use Rattle.std.specs.FinMap.{get}
 use Rattle.fx_io.specs.Shelf.{Files}
 use Rattle.fx_code.specs.Code.{Code}
 use Rattle.fx_files.specs.Reading.{filter_of_bytes}
-use Rattle.fx_files.specs.Filter.{Filter}
+use Rattle.fx_files.specs.Filter.{Filter as WholeFilter}
 use Rattle.fx_keys.specs.declared.fault.FilterFault.{FilterFault}
 use Rattle.fx_text.specs.Reading as general
 use Rattle.fx_text.specs.declared.fault.CodeFault.{CodeFault}
 use Rattle.fx_sim.specs.Simulation.{simulation}
 use Rattle.fx_sim.specs.declared.fault.SampleFault.{SampleFault}
+use Rattle.fx_tool.specs.Answer.{Answer, absent, Delivers}
+use Rattle.fx_tool.specs.Certificate.{Certificate}
+use Rattle.fx_tool.specs.Check.{judged, by_certificate, judged_bytes, after_code, after_filter, check_plan}
 use Rattle.fx_tool.specs.Claim.{certificate_in}
 use Rattle.fx_tool.specs.CodeReading.{code_in}
-use Rattle.fx_tool.specs.Command.{Operands, Command, Check, Show, Simulate, command_of}
+use Rattle.fx_tool.specs.Command.{Command, command_of}
 use Rattle.fx_tool.specs.ConstantFilter.{ConstantFilter}
 use Rattle.fx_tool.specs.FilterReading.{filter_in}
 use Rattle.fx_tool.specs.Inequalities.{first_refusal}
-use Rattle.fx_tool.specs.Answer.{Answer, says, absent, by_content, when_built, built, judged, cert_answer, code_answer, check_answer, file_limit, samples_limit, when_short, shown, show_answer, run_answer, samples_answer, when_code, simulate_answer, command_answer, answer_of}
-use Rattle.fx_tool.specs.Clauses.{WhereTold, Gives, PlacesAnswer, with_placed}
+use Rattle.fx_tool.specs.Operand.{limit_of, too_long}
+use Rattle.fx_tool.specs.Plan.{Plan, Ends, Reads, by_content, when_short, answer_by, OfAnswer}
+use Rattle.fx_tool.specs.Running.{plan_of, operands_to, names_to, plan_to, answer_of, with_placed, OfWords, PlacesAnswer}
+use Rattle.fx_tool.specs.Show.{shown, show_plan}
+use Rattle.fx_tool.specs.Simulate.{outputs, samples_plan, simulate_plan}
 use Rattle.fx_tool.specs.Status.{is_spoken}
 use Rattle.fx_tool.specs.Writing.{GrowsBy}
+use Rattle.fx_tool.specs.declared.command.Verb.{Verb}
+use Rattle.fx_tool.specs.declared.command.Verb.TheVariants.{Check, Show, Simulate}
 use Rattle.fx_tool.specs.declared.inequality.Refusal.{Refusal}
+use Rattle.fx_tool.specs.declared.operand.Operand.{Operand}
+use Rattle.fx_tool.specs.declared.operand.Operand.TheVariants.{Filter, Samples, BuiltFilter, BuiltCode, BuiltCertificate}
+use Rattle.fx_tool.specs.declared.operand.Operand.TheVariants as operand
 use Rattle.fx_tool.specs.declared.status.Status.{Status}
-use Rattle.fx_tool.specs.declared.status.Status.TheVariants.{Done, Refused, BadFilter, BadCode, BadSamples, ReadFault, TooLong, NoMemory, NotBuiltYet}
+use Rattle.fx_tool.specs.declared.status.Status.TheVariants.{ReadFault, NoMemory}
 
--- ---- what holds of an absent file and of the statuses that have a text, holds of each answer
+-- ---- each answer of a plan has a text of its own, and places nothing
 
-module _ (P : Answer → Type 0) (no_file : P absent) (spoken : (s : Status) (text : List ℕ) → IsTrue (is_spoken s) → P (says s text)) where
-  of_content : (o : Option (List ℕ)) (next : List ℕ → Answer) → ((content : List ℕ) → P (next content)) → P (by_content o next)
-  of_content None next h = no_file
-  of_content (Some content) next h = h content
+record IsSpoken (a : Answer) : Type 0 where
+  status : IsTrue (is_spoken a.status)
+  placed : a.placed ≡ []
 
-  of_built : {X : Type 0} (o : Option X) (line : List ℕ) (next : X → Answer) → ((x : X) → P (next x)) → P (when_built o line next)
-  of_built None line next h = spoken NotBuiltYet line refl
-  of_built (Some x) line next h = h x
+AllSpoken : Plan → Type 0
+AllSpoken (Ends a) = IsSpoken a
+AllSpoken (Reads next) = (content : List ℕ) → AllSpoken (next content)
 
-  of_judged : (r : Option Refusal) (errors : List ℕ) → P (judged r errors)
-  of_judged None errors = spoken Done _ refl
-  of_judged (Some refusal) errors = spoken Refused _ refl
+shown_spoken : (r : Result WholeFilter FilterFault) → IsSpoken (shown r)
+shown_spoken (Ok filter) = record { status = refl; placed = refl }
+shown_spoken (Err fault) = record { status = refl; placed = refl }
 
-  of_cert : (files : Files) (o : Operands) (f : ConstantFilter) (p : Code) → P (cert_answer files o f p)
-  of_cert files o f p =
-      of_content (get files o.cert) _ (λ bytes. of_built (built certificate_in bytes) (codes "not built yet certificate\n") (λ c. judged (first_refusal f p c) c.errors) (λ c. of_judged (first_refusal f p c) c.errors))
+outputs_spoken : (r : Result (List ℕ) SampleFault) → IsSpoken (outputs r)
+outputs_spoken (Ok text) = record { status = refl; placed = refl }
+outputs_spoken (Err fault) = record { status = refl; placed = refl }
 
-  of_code : (files : Files) (o : Operands) (f : ConstantFilter) → P (code_answer files o f)
-  of_code files o f = of_content (get files o.code) _ (λ bytes. of_built (built code_in bytes) (codes "not built yet code\n") (cert_answer files o f) (of_cert files o f))
+samples_spoken : (r : Result Code CodeFault) → AllSpoken (samples_plan r)
+samples_spoken (Ok p) = λ samples. outputs_spoken (simulation p samples)
+samples_spoken (Err fault) = record { status = refl; placed = refl }
 
-  of_check : (files : Files) (o : Operands) → P (check_answer files o)
-  of_check files o = of_content (get files o.filter) _ (λ bytes. of_built (built filter_in bytes) (codes "not built yet filter\n") (code_answer files o) (of_code files o))
+judged_spoken : (r : Option Refusal) (errors : List ℕ) → IsSpoken (judged r errors)
+judged_spoken None errors = record { status = refl; placed = refl }
+judged_spoken (Some refusal) errors = record { status = refl; placed = refl }
 
-  of_short : (limit : ℕ) (line : List ℕ) (next : List ℕ → Answer) → ((content : List ℕ) → P (next content)) → (content : List ℕ) → P (when_short limit line next content)
-  of_short limit line next h content = go (nat_le (length content) limit)
-    where
-      go : (b : Bool) → P (cond b (next content) (says TooLong line))
-      go true = h content
-      go false = spoken TooLong line refl
+certificate_spoken : (f : ConstantFilter) (p : Code) (c : Option Certificate) → IsSpoken (by_certificate f p c)
+certificate_spoken f p None = record { status = refl; placed = refl }
+certificate_spoken f p (Some c) = judged_spoken (first_refusal f p c) c.errors
 
-  of_shown : (r : Result Filter FilterFault) → P (shown r)
-  of_shown (Ok filter) = spoken Done _ refl
-  of_shown (Err fault) = spoken BadFilter _ refl
+bytes_spoken : (f : ConstantFilter) (p : Code) (bytes : List ℕ) → IsSpoken (judged_bytes f p bytes)
+unfolding judged_bytes
+bytes_spoken f p bytes = certificate_spoken f p (certificate_in bytes)
 
-  of_show : (files : Files) (filter : List ℕ) → P (show_answer files filter)
-  of_show files filter = of_content (get files filter) _ (of_short file_limit _ (λ bytes. shown (filter_of_bytes bytes)) (λ bytes. of_shown (filter_of_bytes bytes)))
+code_spoken : (f : ConstantFilter) (p : Option Code) → AllSpoken (after_code f p)
+code_spoken f None = record { status = refl; placed = refl }
+code_spoken f (Some p) = λ bytes. bytes_spoken f p bytes
 
-  of_run : (r : Result (List ℕ) SampleFault) → P (run_answer r)
-  of_run (Ok text) = spoken Done _ refl
-  of_run (Err fault) = spoken BadSamples _ refl
+filter_spoken : (f : Option ConstantFilter) → AllSpoken (after_filter f)
+filter_spoken None = record { status = refl; placed = refl }
+filter_spoken (Some f) = λ bytes. code_spoken f (code_in bytes)
 
-  of_samples : (files : Files) (samples : List ℕ) (p : Code) → P (samples_answer files samples p)
-  of_samples files samples p = of_content (get files samples) _ (of_short samples_limit _ (λ bytes. run_answer (simulation p bytes)) (λ bytes. of_run (simulation p bytes)))
+verb_spoken : (v : Verb) → AllSpoken (plan_of v)
+verb_spoken Check = λ bytes. filter_spoken (filter_in bytes)
+verb_spoken Show = λ bytes. shown_spoken (filter_of_bytes bytes)
+verb_spoken Simulate = λ bytes. samples_spoken (general.code_in bytes)
 
-  of_program : (r : Result Code CodeFault) (next : Code → Answer) → ((p : Code) → P (next p)) → P (when_code r next)
-  of_program (Ok p) next h = h p
-  of_program (Err fault) next h = spoken BadCode _ refl
+words_spoken : (c : Option Command) → AllSpoken (plan_to c)
+words_spoken None = record { status = refl; placed = refl }
+words_spoken (Some c) = verb_spoken c.verb
 
-  of_simulate : (files : Files) (code samples : List ℕ) → P (simulate_answer files code samples)
-  of_simulate files code samples =
-      of_content (get files code) _ (of_short file_limit _ (λ bytes. when_code (general.code_in bytes) (samples_answer files samples)) (λ bytes. of_program (general.code_in bytes) (samples_answer files samples) (of_samples files samples)))
+-- ---- so each answer on files is such, or a file is absent
 
-  of_command : (o : Option Command) (files : Files) → P (command_answer o files)
-  of_command None files = spoken NotBuiltYet _ refl
-  of_command (Some (Check o)) files = of_check files o
-  of_command (Some (Show filter)) files = of_show files filter
-  of_command (Some (Simulate code samples)) files = of_simulate files code samples
+IsUsual : Answer → Type 0
+IsUsual a = IsSpoken a ⊎ (a ≡ absent)
 
-  of_each : (words : List (List ℕ)) (files : Files) → P (answer_of words files)
-  of_each words files = of_command (command_of words) files
+long_spoken : (o : Operand) → IsSpoken (too_long o)
+long_spoken Filter = record { status = refl; placed = refl }
+long_spoken operand.Code = record { status = refl; placed = refl }
+long_spoken Samples = record { status = refl; placed = refl }
+long_spoken BuiltFilter = record { status = refl; placed = refl }
+long_spoken BuiltCode = record { status = refl; placed = refl }
+long_spoken BuiltCertificate = record { status = refl; placed = refl }
+
+short_usual : (b : Bool) (next long : Answer) → IsUsual next → IsUsual long → IsUsual (cond b next long)
+short_usual true next long h l = h
+short_usual false next long h l = l
+
+content_usual : (o : Operand) (c : Option (List ℕ)) (next : List ℕ → Answer) → ((content : List ℕ) → IsUsual (next content)) → IsUsual (by_content o absent (too_long o) next c)
+content_usual o None next h = inr refl
+content_usual o (Some content) next h = short_usual (nat_le (length content) (limit_of o)) (next content) (too_long o) (h content) (inl (long_spoken o))
+
+plan_usual : (os : List Operand) (names : List (List ℕ)) (plan : Plan) (files : Files) → AllSpoken plan → IsUsual (answer_by os names plan files)
+plan_usual os names (Ends a) files h = inl h
+plan_usual [] names (Reads next) files h = inr refl
+plan_usual (o ∷ os) [] (Reads next) files h = inr refl
+plan_usual (o ∷ os) (name ∷ names) (Reads next) files h =
+    content_usual o (get files name) (λ content. answer_by os names (next content) files) (λ content. plan_usual os names (next content) files (h content))
+
+of_plan : (os : List Operand) (names : List (List ℕ)) (plan : Plan) (told : Option Files) (P : Answer → Type 0) → AllSpoken plan → ((a : Answer) → IsUsual a → P a) → OfAnswer os names plan told P
+of_plan os names (Ends a) told P h p = p a (inl h)
+of_plan os names (Reads next) None P h p = tt
+of_plan os names (Reads next) (Some files) P h p = p _ (plan_usual os names (Reads next) files h)
 
 -- ---- no command places a file
+
+usual_places_nothing : (a : Answer) → IsUsual a → a.placed ≡ []
+usual_places_nothing a (inl s) = s.placed
+usual_places_nothing a (inr e) = ap (λ (a : Answer). a.placed) e
 
 pub places_nothing : (words : List (List ℕ)) (before after : Option Files) (status : Status) → after ≡ before → PlacesAnswer words before after status
 places_nothing words None after status e = tt
 places_nothing words (Some files) after status e =
-    λ h. e ∙ ap (λ ps. Some (with_placed ps files)) (sym (of_each (λ a. a.placed ≡ []) refl (λ s text h. refl) words files))
+    let c = command_of words in
+    λ h. e ∙ ap (λ ps. Some (with_placed ps files)) (sym (usual_places_nothing (answer_of words files) (plan_usual (operands_to c) (names_to c) (plan_to c) files (words_spoken c))))
 
 -- ---- faults before the text
 
@@ -104,26 +141,40 @@ grows_nothing (Some t) = ap Some (sym (append-nil t))
 grows_text : (text : List ℕ) (before : Option (List ℕ)) → text ≡ [] → GrowsBy text before before
 grows_text text before e = let P : List ℕ → Type 0 = λ t. GrowsBy t before before in subst P (sym e) (grows_nothing before)
 
+silent : (s : Status) → s ≡ ReadFault ⊎ (s ≡ NoMemory) → IsTrue (is_spoken s) → ⊥
+silent s (inl e) h = let no : false ≡ true = subst (λ (s : Status). IsTrue (is_spoken s)) e h in cc
+silent s (inr e) h = let no : false ≡ true = subst (λ (s : Status). IsTrue (is_spoken s)) e h in cc
+
 -- an absent file says nothing
-fault_says_nothing : (words : List (List ℕ)) (files : Files) → ReadFault ≡ (answer_of words files).status → (answer_of words files).text ≡ []
-fault_says_nothing words files = of_each (λ a. ReadFault ≡ a.status → a.text ≡ []) (λ h. refl) (λ s text h e. let silent : false ≡ true = subst (λ (s : Status). IsTrue (is_spoken s)) (sym e) h in cc) words files
+fault_says_nothing : (a : Answer) → IsUsual a → ReadFault ≡ a.status → a.text ≡ []
+fault_says_nothing a (inl s) h = absurd (silent a.status (inl (sym h)) s.status)
+fault_says_nothing a (inr e) h = ap (λ (a : Answer). a.text) e
 
 -- no answer is want of memory
-memory_is_no_answer : (words : List (List ℕ)) (files : Files) → NoMemory ≡ (answer_of words files).status → ⊥
-memory_is_no_answer words files = of_each (λ a. NoMemory ≡ a.status → ⊥) (λ h. cc) (λ s text h e. let silent : false ≡ true = subst (λ (s : Status). IsTrue (is_spoken s)) (sym e) h in cc) words files
+memory_is_no_answer : (a : Answer) → IsUsual a → NoMemory ≡ a.status → ⊥
+memory_is_no_answer a (inl s) h = silent a.status (inr (sym h)) s.status
+memory_is_no_answer a (inr e) h = let e : NoMemory ≡ ReadFault = h ∙ ap (λ (a : Answer). a.status) e in cc
 
-pub gives_read_fault : (told : Option Files) (words : List (List ℕ)) (before : Option (List ℕ)) → WhereTold told (λ files. Gives (answer_of words files) ReadFault before before)
-gives_read_fault None words before = tt
-gives_read_fault (Some files) words before = record {
+delivers_read_fault : (a : Answer) (before : Option (List ℕ)) → IsUsual a → Delivers a ReadFault before before
+delivers_read_fault a before u = record {
   which = inr (inl refl);
-  whole = λ h. grows_text (answer_of words files).text before (fault_says_nothing words files h);
+  whole = λ h. grows_text a.text before (fault_says_nothing a u h);
   prefix = (0, grows_nothing before);
 }
 
-pub gives_no_memory : (told : Option Files) (words : List (List ℕ)) (before : Option (List ℕ)) → WhereTold told (λ files. Gives (answer_of words files) NoMemory before before)
-gives_no_memory None words before = tt
-gives_no_memory (Some files) words before = record {
+delivers_no_memory : (a : Answer) (before : Option (List ℕ)) → IsUsual a → Delivers a NoMemory before before
+delivers_no_memory a before u = record {
   which = inr (inr (inr refl));
-  whole = λ h. absurd (memory_is_no_answer words files h);
+  whole = λ h. absurd (memory_is_no_answer a u h);
   prefix = (0, grows_nothing before);
 }
+
+pub gives_read_fault : (words : List (List ℕ)) (told : Option Files) (before : Option (List ℕ)) → OfWords words told (λ a. Delivers a ReadFault before before)
+gives_read_fault words told before =
+    let c = command_of words in
+    of_plan (operands_to c) (names_to c) (plan_to c) told (λ a. Delivers a ReadFault before before) (words_spoken c) (λ a u. delivers_read_fault a before u)
+
+pub gives_no_memory : (words : List (List ℕ)) (told : Option Files) (before : Option (List ℕ)) → OfWords words told (λ a. Delivers a NoMemory before before)
+gives_no_memory words told before =
+    let c = command_of words in
+    of_plan (operands_to c) (names_to c) (plan_to c) told (λ a. Delivers a NoMemory before before) (words_spoken c) (λ a u. delivers_no_memory a before u)

@@ -2,7 +2,6 @@ pub mod Answering
 pub mod ClaimLaws
 pub mod CodeLaws
 pub mod ConstantSound
-pub mod Deciding
 pub mod FilterLaws
 pub mod Gains
 pub mod Headline

@@ -72,13 +72,27 @@ full_at files name bytes limit at positive so_far =
 
 -- ---- the calls
 
-content_few : (o : Option (List ℕ)) (bytes : List ℕ) (limit : ℕ) → (bytes ≡ []) ⊎ Beginning bytes o → length bytes ≤ limit + 1 → length bytes + 1 ≤ content_calls limit o
+begun_length : (bytes content : List ℕ) → bytes ≡ take (length bytes) content → length bytes ≤ length content
+begun_length bytes content e = omega (arith, ap length e, length-take (length bytes) content)
+
+content_few : (o : Option (List ℕ)) (bytes : List ℕ) (limit : ℕ) → (bytes ≡ []) ⊎ Beginning bytes o → length bytes ≤ limit → length bytes + 1 ≤ content_calls limit o
 content_few None bytes limit (inl e) h = omega (arith, ap length e)
 content_few None bytes limit (inr b) h = absurd b
 content_few (Some content) bytes limit (inl e) h = omega (arith, ap length e)
-content_few (Some content) bytes limit (inr b) h = omega (arith, ap length b, length-take (length bytes) content)
+content_few (Some content) bytes limit (inr b) h = omega (arith, begun_length bytes content b)
 
--- one call more than the bytes so far is within what a read may take
-pub few_calls : (files : Option Files) (name bytes : List ℕ) (limit : ℕ) → SoFar files name bytes → length bytes ≤ limit + 1 → length bytes + 1 ≤ read_calls limit files name
+-- one call more than the bytes so far is within what a read may take, where another is made
+pub few_calls : (files : Option Files) (name bytes : List ℕ) (limit : ℕ) → SoFar files name bytes → length bytes ≤ limit → length bytes + 1 ≤ read_calls limit files name
 few_calls None name bytes limit b h = omega arith
 few_calls (Some files) name bytes limit b h = content_few (get files name) bytes limit b h
+
+content_full : (o : Option (List ℕ)) (bytes : List ℕ) (limit : ℕ) → (bytes ≡ []) ⊎ Beginning bytes o → length bytes ≤ limit + 1 → length bytes ≤ content_calls limit o
+content_full None bytes limit (inl e) h = omega (arith, ap length e)
+content_full None bytes limit (inr b) h = absurd b
+content_full (Some content) bytes limit (inl e) h = omega (arith, ap length e)
+content_full (Some content) bytes limit (inr b) h = omega (arith, begun_length bytes content b)
+
+-- and as many calls as bytes, where none is
+pub full_calls : (files : Option Files) (name bytes : List ℕ) (limit : ℕ) → SoFar files name bytes → length bytes ≤ limit + 1 → length bytes ≤ read_calls limit files name
+full_calls None name bytes limit b h = omega arith
+full_calls (Some files) name bytes limit b h = content_full (get files name) bytes limit b h

@@ -1,21 +1,30 @@
--- What the words of a command line ask for.
-use Rattle.std.specs.Prelude.{ℕ, Bool, false, not, ◌&&◌, ◌==◌, if◌then◌else◌, List, [], ◌∷◌, map, codes, String, Option, Some, None, IsTrue, MatchOption, ⊤}
+-- The commands: their words and operands, and what the words of a command line ask for.
+use Rattle.std.specs.Prelude.{ℕ, nat_eq, ◌==◌, ◌&&◌, Bool, not, if◌then◌else◌, List, [], ◌∷◌, length, map, codes, String, Option, Some, None, option_and_then}
+use Rattle.std.specs.List.{list_all, starts_with}
 use Rattle.std.specs.String.{string_bytes}
 use Rattle.std.specs.Str.{bytes_eq}
-use Rattle.fx_tool.specs.declared.words.Command as declared
-use Rattle.fx_tool.specs.declared.words.Command.TheVariants as words
+use Rattle.fx_tool.specs.declared.command.Command as declared
+use Rattle.fx_tool.specs.declared.command.TheConstants.{VERBS}
+use Rattle.fx_tool.specs.declared.command.Verb.{Verb}
+use Rattle.fx_tool.specs.declared.command.Verb.TheVariants.{Check, Show, Simulate}
+use Rattle.fx_tool.specs.declared.operand.Operand.{Operand}
+use Rattle.fx_tool.specs.declared.operand.Operand.TheVariants.{Filter, Code, Samples, BuiltFilter, BuiltCode, BuiltCertificate}
 
--- the names of the three files of `check`
-pub record Operands : Type 0 where
-  pub filter : List ℕ
-  pub code : List ℕ
-  pub cert : List ℕ
+-- ---- one arm for each command
 
--- a command with the names of the files that it reads
-pub data Command : Type 0 where
-  Check : Operands → Command
-  Show : List ℕ → Command
-  Simulate : List ℕ → List ℕ → Command
+-- its word
+abbrev pub word_of : Verb → List ℕ
+word_of Check = codes "check"
+word_of Show = codes "show"
+word_of Simulate = codes "simulate"
+
+-- and what it reads
+abbrev pub operands_of : Verb → List Operand
+operands_of Check = BuiltFilter ∷ BuiltCode ∷ BuiltCertificate ∷ []
+operands_of Show = Filter ∷ []
+operands_of Simulate = Code ∷ Samples ∷ []
+
+-- ---- the words
 
 -- the words as bytes
 abbrev pub texts : {Z : Type 0} → List (String Z) → List (List ℕ)
@@ -23,32 +32,34 @@ texts words = map (λ w. string_bytes w) words
 
 -- a word that is not empty and does not begin with `-`
 abbrev pub is_plain : List ℕ → Bool
-is_plain [] = false
-is_plain (c ∷ cs) = not (c == 45)
+is_plain word = not (length word == 0) && not (starts_with nat_eq word (codes "-"))
 
--- the command, where the words are the program's name, the command's and exactly its operands
-abbrev pub command_of : List (List ℕ) → Option Command
-command_of (name ∷ command ∷ filter ∷ code ∷ cert ∷ []) =
-    if bytes_eq command (codes "check") && (is_plain filter && (is_plain code && is_plain cert))
-    then Some (Check (record { filter = filter; code = code; cert = cert })) else None
-command_of (name ∷ command ∷ filter ∷ []) =
-    if bytes_eq command (codes "show") && is_plain filter then Some (Show filter) else None
-command_of (name ∷ command ∷ code ∷ samples ∷ []) =
-    if bytes_eq command (codes "simulate") && (is_plain code && is_plain samples) then Some (Simulate code samples) else None
+-- the first of these commands with this word
+unfoldable pub verb_in : List Verb → List ℕ → Option Verb
+verb_in [] word = None
+verb_in (v ∷ vs) word = if bytes_eq (word_of v) word then Some v else verb_in vs word
+
+-- the command with this word
+unfoldable pub verb_of : List ℕ → Option Verb
+verb_of word = verb_in VERBS word
+
+-- the names are plain words, one for each operand
+abbrev pub names_fit : Verb → List (List ℕ) → Bool
+names_fit v names = length names == length (operands_of v) && list_all is_plain names
+
+-- a command with the names of its files
+pub record Command : Type 0 where
+  pub verb : Verb
+  pub names : List (List ℕ)
+
+abbrev pub with_names : List (List ℕ) → Verb → Option Command
+with_names names v = if names_fit v names then Some (record { verb = v; names = names }) else None
+
+-- what the words ask for: the program's name, the command's and exactly its operands
+unfoldable pub command_of : List (List ℕ) → Option Command
+command_of (program ∷ word ∷ names) = option_and_then (with_names names) (verb_of word)
 command_of _ = None
 
--- the operands that the command reads may be read
-abbrev pub MayRead : (List ℕ → Bool) → Command → Type 0
-MayRead readable (Check o) = IsTrue (readable o.filter) × IsTrue (readable o.code) × IsTrue (readable o.cert)
-MayRead readable (Show filter) = IsTrue (readable filter)
-MayRead readable (Simulate code samples) = IsTrue (readable code) × IsTrue (readable samples)
-
-abbrev pub CanRead : (List ℕ → Bool) → List (List ℕ) → Type 0
-CanRead readable words = MatchOption (command_of words) ⊤ (MayRead readable)
-
--- ---- a command as the code has it
-
+-- the same as the code has it
 abbrev pub named : declared.Command → Command
-named (words.Check o) = Check (record { filter = o.filter.now; code = o.code.now; cert = o.cert.now })
-named (words.Show filter) = Show filter.now
-named (words.Simulate code samples) = Simulate code.now samples.now
+named c = record { verb = c.verb; names = texts c.names.now }

@@ -1,7 +1,7 @@
 pub mod Answer
 pub mod Certificate
+pub mod Check
 pub mod Claim
-pub mod Clauses
 pub mod CodeReading
 pub mod Command
 pub mod ConstantCode
@@ -13,8 +13,13 @@ pub mod FilterReading
 pub mod Inequalities
 pub mod Numeral
 pub mod NumeralReading
+pub mod Operand
+pub mod Plan
 pub mod Printed
 pub mod Reading
+pub mod Running
+pub mod Show
+pub mod Simulate
 pub mod Sound
 pub mod Status
 pub mod Text

@@ -1,83 +1,26 @@
-ghost use Rattle.std.specs.Prelude.{◌≡◌, ◌≤◌, ◌+◌, IsTrue, IfOk, IfSome, option_map};
-ghost use Rattle.fx_io.specs.Causes.{HasCause};
-ghost use Rattle.fx_io.specs.Shelf.{KeepsNames};
-ghost use Rattle.fx_tool.specs.Answer.{built, cert_outcome, check_answer};
+//! `check`.
+ghost use Rattle.std.specs.Prelude.{◌≡◌, ◌∷◌, [], Some, IfOk, IfSome, IsTrue, option_map};
 ghost use Rattle.fx_tool.specs.Certificate.{CertificateFits};
-ghost use Rattle.fx_tool.specs.Claim.{certificate_in, certificate_of};
-ghost use Rattle.fx_tool.specs.Clauses.{check_calls, WhereTold};
+ghost use Rattle.fx_tool.specs.Check.{after_code, after_filter, by_certificate, check_plan, judged_bytes};
+ghost use Rattle.fx_tool.specs.Claim.{certificate_of};
 ghost use Rattle.fx_tool.specs.CodeReading.{code_in};
-ghost use Rattle.fx_tool.specs.FilterReading.{filter_in};
 ghost use Rattle.fx_tool.specs.ConstantCode.{HasTerm};
-ghost use Rattle.fx_tool.specs.Reading.{Has, OnlyReads, read_calls};
+ghost use Rattle.fx_tool.specs.FilterReading.{filter_in};
+ghost use Rattle.fx_tool.specs.Plan.{Follows};
+ghost use Rattle.fx_tool.specs.declared.operand.Operand.TheVariants.{BuiltFilter, BuiltCode, BuiltCertificate};
 
 use crate::certificate::{Claim, read_certificate};
 use crate::code_file::read_code_file;
 use crate::constant::ConstantFilter;
-use crate::ending::{Ending, ended};
+use crate::ending::Ending;
 use crate::filter_file::read_filter_file;
 use crate::judge::judge;
-use crate::reading::read_file;
+use crate::operand::{Operand, read_operand, too_long};
 use crate::report::{accepted, refused};
 use crate::status::Status;
-use crate::words::Operands;
 use fx_code::Program;
 use fx_io::{IoFault, Shelf};
 use std::alloc::{AllocError, Global};
-
-// The most bytes that a file of the built form may have.
-const LIMIT: usize = 4096;
-
-// The filter of a file, where it has the built form.
-fn read_filter<S: Shelf>(
-    alloc: Global,
-    shelf: &mut S,
-    name: &str,
-) -> Result<Option<ConstantFilter>, IoFault>
-    requires { IsTrue (S.readable shelf.old name.now) }
-
-    ensures found { IfOk result (λ r. Has (S.files shelf.old) name.now (λ content. r ≡ built filter_in content)) }
-    ensures shelf { OnlyReads S.files S.read_faults S.place_faults S.calls S.readable (read_calls LIMIT (S.files shelf.old) name.now) shelf.old shelf.new result }
-{
-    match read_file(alloc, shelf, name, LIMIT)? {
-        Some(bytes) => Ok(read_filter_file(&bytes)),
-        None => Ok(None),
-    }
-}
-
-// The program of a file, where it has the built form.
-fn read_program<S: Shelf>(
-    alloc: Global,
-    shelf: &mut S,
-    name: &str,
-) -> Result<Option<Program>, IoFault>
-    requires { IsTrue (S.readable shelf.old name.now) }
-
-    ensures found { IfOk result (λ r. Has (S.files shelf.old) name.now (λ content. r ≡ built code_in content)) }
-    ensures term { IfOk result (λ r. IfSome r (λ p. HasTerm p)) }
-    ensures shelf { OnlyReads S.files S.read_faults S.place_faults S.calls S.readable (read_calls LIMIT (S.files shelf.old) name.now) shelf.old shelf.new result }
-{
-    match read_file(alloc, shelf, name, LIMIT)? {
-        Some(bytes) => match read_code_file(alloc, &bytes) {
-            Ok(program) => Ok(program),
-            Err(_) => Err(IoFault::NoMemory),
-        },
-        None => Ok(None),
-    }
-}
-
-// The numbers of a certificate's file, where it has the built form.
-fn read_claim<S: Shelf>(alloc: Global, shelf: &mut S, name: &str) -> Result<Option<Claim>, IoFault>
-    requires { IsTrue (S.readable shelf.old name.now) }
-
-    ensures found { IfOk result (λ r. Has (S.files shelf.old) name.now (λ content. option_map certificate_of r ≡ built certificate_in content)) }
-    ensures fits { IfOk result (λ r. IfSome r (λ c. CertificateFits (certificate_of c))) }
-    ensures shelf { OnlyReads S.files S.read_faults S.place_faults S.calls S.readable (read_calls LIMIT (S.files shelf.old) name.now) shelf.old shelf.new result }
-{
-    match read_file(alloc, shelf, name, LIMIT)? {
-        Some(bytes) => Ok(read_certificate(&bytes)),
-        None => Ok(None),
-    }
-}
 
 // How a filter, a program and the numbers of a certificate end, or none where that file has not the built form.
 fn judged(
@@ -88,7 +31,7 @@ fn judged(
 ) -> Result<Ending, AllocError>
     requires term { HasTerm program.now }
     requires claim { IfSome claim (λ c. CertificateFits (certificate_of c)) }
-    ensures { IfOk result (λ e. e ≡ cert_outcome filter.now program.now (option_map certificate_of claim)) }
+    ensures { IfOk result (λ e. e ≡ by_certificate filter.now program.now (option_map certificate_of claim)) }
 {
     let Some(claim) = claim else {
         return Ending::line(alloc, Status::NotBuiltYet, "not built yet certificate\n");
@@ -99,29 +42,99 @@ fn judged(
     }
 }
 
+// How a filter, a program and the bytes of a certificate end.
+#[tactic(auto, unfolding(crate::specs::Check::judged_bytes))]
+fn judged_bytes(
+    alloc: Global,
+    filter: &ConstantFilter,
+    program: &Program,
+    bytes: &[u8],
+) -> Result<Ending, AllocError>
+    requires { HasTerm program.now }
+    ensures { IfOk result (λ e. e ≡ judged_bytes filter.now program.now bytes.now) }
+{
+    judged(alloc, filter, program, read_certificate(bytes))
+}
+
+// Reads a certificate, for a filter and a program.
+fn with_program<S: Shelf>(
+    alloc: Global,
+    filter: &ConstantFilter,
+    program: &Program,
+    cert: &str,
+    shelf: &mut S,
+) -> Result<Ending, IoFault>
+    requires term { HasTerm program.now }
+    requires cert { IsTrue ((S.seen shelf.old).readable cert.now) }
+    ensures { Follows (BuiltCertificate ∷ []) (cert.now ∷ []) (after_code filter.now (Some program.now))
+        (S.seen shelf.old) (S.seen shelf.new) result }
+{
+    match read_operand(alloc, Operand::BuiltCertificate, cert, shelf)? {
+        Some(bytes) => Ok(judged_bytes(alloc, filter, program, &bytes)?),
+        None => too_long(alloc, Operand::BuiltCertificate),
+    }
+}
+
+// Goes on with the bytes of a program, for a filter.
+fn with_code<S: Shelf>(
+    alloc: Global,
+    filter: &ConstantFilter,
+    bytes: &[u8],
+    cert: &str,
+    shelf: &mut S,
+) -> Result<Ending, IoFault>
+    requires { IsTrue ((S.seen shelf.old).readable cert.now) }
+    ensures { Follows (BuiltCertificate ∷ []) (cert.now ∷ []) (after_code filter.now (code_in bytes.now))
+        (S.seen shelf.old) (S.seen shelf.new) result }
+{
+    match read_code_file(alloc, bytes)? {
+        Some(program) => with_program(alloc, filter, &program, cert, shelf),
+        None => Ok(Ending::line(alloc, Status::NotBuiltYet, "not built yet code\n")?),
+    }
+}
+
+// Goes on with the bytes of a filter.
+fn with_filter<S: Shelf>(
+    alloc: Global,
+    bytes: &[u8],
+    code: &str,
+    cert: &str,
+    shelf: &mut S,
+) -> Result<Ending, IoFault>
+    requires code { IsTrue ((S.seen shelf.old).readable code.now) }
+    requires cert { IsTrue ((S.seen shelf.old).readable cert.now) }
+    ensures { Follows (BuiltCode ∷ BuiltCertificate ∷ []) (code.now ∷ cert.now ∷ [])
+        (after_filter (filter_in bytes.now)) (S.seen shelf.old) (S.seen shelf.new) result }
+{
+    let Some(filter) = read_filter_file(bytes) else {
+        return Ok(Ending::line(alloc, Status::NotBuiltYet, "not built yet filter\n")?);
+    };
+    match read_operand(alloc, Operand::BuiltCode, code, shelf)? {
+        Some(bytes) => with_code(alloc, &filter, &bytes, cert, shelf),
+        None => too_long(alloc, Operand::BuiltCode),
+    }
+}
+
 /// Reads the three files in their order, each whole and at once parsed, and judges them.
 ///
 /// # Errors
 ///
-/// `Failed` only where the shelf's count of read faults rose.
+/// `Failed` just where the shelf's count of read faults rose.
 pub fn check<S: Shelf>(
     alloc: Global,
-    operands: &Operands<'_>,
+    filter: &str,
+    code: &str,
+    cert: &str,
     shelf: &mut S,
 ) -> Result<Ending, IoFault>
-    requires filter { IsTrue (S.readable shelf.old operands.now.filter.now) }
-    requires code { IsTrue (S.readable shelf.old operands.now.code.now) }
-    requires cert { IsTrue (S.readable shelf.old operands.now.cert.now) }
-
-    ensures answer { IfOk result (λ e. WhereTold (S.files shelf.old) (λ files. check_answer files (record { filter = operands.now.filter.now; code = operands.now.code.now; cert = operands.now.cert.now }) ≡ e)) }
-    ensures shelf { OnlyReads S.files S.read_faults S.place_faults S.calls S.readable (check_calls (S.files shelf.old) (record { filter = operands.now.filter.now; code = operands.now.code.now; cert = operands.now.cert.now })) shelf.old shelf.new result }
+    requires filter { IsTrue ((S.seen shelf.old).readable filter.now) }
+    requires code { IsTrue ((S.seen shelf.old).readable code.now) }
+    requires cert { IsTrue ((S.seen shelf.old).readable cert.now) }
+    ensures { Follows (BuiltFilter ∷ BuiltCode ∷ BuiltCertificate ∷ [])
+        (filter.now ∷ code.now ∷ cert.now ∷ []) check_plan (S.seen shelf.old) (S.seen shelf.new) result }
 {
-    let Some(filter) = read_filter(alloc, shelf, operands.filter)? else {
-        return ended(Ending::line(alloc, Status::NotBuiltYet, "not built yet filter\n"));
-    };
-    let Some(program) = read_program(alloc, shelf, operands.code)? else {
-        return ended(Ending::line(alloc, Status::NotBuiltYet, "not built yet code\n"));
-    };
-    let claim = read_claim(alloc, shelf, operands.cert)?;
-    ended(judged(alloc, &filter, &program, claim))
+    match read_operand(alloc, Operand::BuiltFilter, filter, shelf)? {
+        Some(bytes) => with_filter(alloc, &bytes, code, cert, shelf),
+        None => too_long(alloc, Operand::BuiltFilter),
+    }
 }

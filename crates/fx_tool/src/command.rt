@@ -1,80 +1,127 @@
-ghost use Rattle.std.specs.Prelude.{◌≡◌, ◌≤◌, ◌+◌, IfOk};
-ghost use Rattle.fx_io.specs.Causes.{Rose};
-ghost use Rattle.fx_tool.specs.Answer.{answer_of};
-ghost use Rattle.fx_tool.specs.Clauses.{command_calls, DoneClaims, Gives, PlacesAnswer, WhereTold};
-ghost use Rattle.fx_tool.specs.Command.{CanRead, command_of, texts};
-ghost use Rattle.fx_tool.specs.Reading.{OnlyReads};
-ghost use Rattle.fx_tool.specs.Status.{IsBuiltStatus};
+//! The commands: their words, the files that they read, and what the words of a command line ask for.
+ghost use Rattle.std.specs.Prelude.{◌≡◌, option_map, length, IfSome};
+ghost use Rattle.std.specs.List.{list_all};
+ghost use Rattle.fx_tool.specs.Command.{command_of, is_plain, named, names_fit, operands_of, texts, verb_in, verb_of, with_names, word_of};
 
-use crate::check::check;
-use crate::ending::{Ending, ended};
-use crate::show::show;
-use crate::simulate::simulate;
-use crate::status::Status;
-use crate::words::{Command, command_of};
-use fx_io::{IoFault, Shelf, Sink};
-use std::alloc::Global;
+use crate::operand::Operand;
 
-// Reads what the command of these words reads, and says how the run ends.
-fn ending<S: Shelf>(alloc: Global, words: &[String], shelf: &mut S) -> Result<Ending, IoFault>
-    requires { CanRead (S.readable shelf.old) (texts words.now) }
+/// A command.
+#[derive(Clone, Copy, Debug, PartialEq, Eq)]
+pub enum Verb {
+    /// Judges a filter, a program and a certificate.
+    Check,
+    /// Shows a filter.
+    Show,
+    /// Runs a program on samples.
+    Simulate,
+}
 
-    ensures answer { IfOk result (λ e. WhereTold (S.files shelf.old) (λ files. answer_of (texts words.now) files ≡ e)) }
-    ensures shelf { OnlyReads S.files S.read_faults S.place_faults S.calls S.readable (command_calls (S.files shelf.old) (command_of (texts words.now))) shelf.old shelf.new result }
-{
-    match command_of(words) {
-        Some(Command::Check(operands)) => check(alloc, &operands, shelf),
-        Some(Command::Show(filter)) => show(alloc, filter, shelf),
-        Some(Command::Simulate(code, samples)) => simulate(alloc, code, samples, shelf),
-        None => ended(Ending::line(alloc, Status::NotBuiltYet, "not built yet words\n")),
+/// Each command.
+pub const VERBS: [Verb; 3] = [Verb::Check, Verb::Show, Verb::Simulate];
+
+impl Verb {
+    /// Its word on the command line.
+    pub fn word(self) -> &'static str
+        ensures { result.now ≡ word_of self }
+    {
+        match self {
+            Verb::Check => "check",
+            Verb::Show => "show",
+            Verb::Simulate => "simulate",
+        }
+    }
+
+    /// The files that it reads, in this order.
+    pub fn operands(self) -> &'static [Operand]
+        ensures { result.now ≡ operands_of self }
+    {
+        match self {
+            Verb::Check => &[
+                Operand::BuiltFilter,
+                Operand::BuiltCode,
+                Operand::BuiltCertificate,
+            ],
+            Verb::Show => &[Operand::Filter],
+            Verb::Simulate => &[Operand::Code, Operand::Samples],
+        }
     }
 }
 
-// Runs a command line, and gives the answer of its words and files.
-fn answer<S: Shelf, K: Sink>(alloc: Global, words: &[String], shelf: &mut S, out: &mut K) -> Status
-    requires { CanRead (S.readable shelf.old) (texts words.now) }
-
-    ensures answer { WhereTold (S.files shelf.old) (λ files. Gives (answer_of (texts words.now) files) result (K.told out.old) (K.told out.new)) }
-    ensures quiet { result ≡ Status.ReadFault → K.told out.new ≡ K.told out.old }
-    ensures only { IsBuiltStatus result }
-    ensures read_fault { result ≡ Status.ReadFault → Rose (S.read_faults shelf.old) (S.read_faults shelf.new) }
-    ensures write_fault { result ≡ Status.WriteFault → Rose (K.faults out.old) (K.faults out.new) }
-    ensures files { S.files shelf.new ≡ S.files shelf.old }
-    ensures place_faults { S.place_faults shelf.new ≡ S.place_faults shelf.old }
-    ensures later { S.calls shelf.old ≤ S.calls shelf.new }
-    ensures calls { S.calls shelf.new ≤ S.calls shelf.old + command_calls (S.files shelf.old) (command_of (texts words.now)) }
+// The first of these commands with this word.
+#[tactic(auto, unfolding(crate::specs::Command::verb_in))]
+fn verb_in(verbs: &[Verb], word: &str) -> Option<Verb>
+    ensures { result ≡ verb_in verbs.now word.now }
 {
-    match ending(alloc, words, shelf) {
-        Ok(ending) => ending.put(out),
-        Err(IoFault::Failed) => Status::ReadFault,
-        Err(IoFault::NoMemory) => Status::NoMemory,
+    match verbs {
+        [] => None,
+        [verb, rest @ ..] => {
+            if verb.word() == word {
+                Some(*verb)
+            } else {
+                verb_in(rest, word)
+            }
+        }
     }
 }
 
-/// Runs a command line: the program's name, a command and its operands. It reads the files that the words name and puts
-/// a text; what it gives is the answer of the words and the files, unless a read, a write or memory fails.
-pub fn run<S: Shelf, K: Sink>(alloc: Global, words: &[String], shelf: &mut S, out: &mut K) -> Status
-    requires { CanRead (S.readable shelf.old) (texts words.now) }
-
-    // Of `check`: for every list of input words within the file's bound, of any length, every row of the code that was
-    // read ends with the exact sum in its accumulator, every stored word lies in its format, and every output differs from
-    // the file's exact output by at most the certificate's error, which is the one printed. Of the other commands: the
-    // files were read as what they stand for, and all of that was put.
-    ensures done { result ≡ Status.Done → DoneClaims (texts words.now) (S.files shelf.old) (K.told out.old) (K.told out.new) }
-
-    // The status is the answer's, or a read, a write or memory failed; with the answer's status its whole text was put and
-    // its files were placed, and else the first bytes of the text.
-    ensures answer { WhereTold (S.files shelf.old) (λ files. Gives (answer_of (texts words.now) files) result (K.told out.old) (K.told out.new)) }
-    ensures placed { PlacesAnswer (texts words.now) (S.files shelf.old) (S.files shelf.new) result }
-
-    ensures quiet { result ≡ Status.ReadFault → K.told out.new ≡ K.told out.old }
-    ensures only { IsBuiltStatus result }
-    ensures read_fault { result ≡ Status.ReadFault → Rose (S.read_faults shelf.old) (S.read_faults shelf.new) }
-    ensures write_fault { result ≡ Status.WriteFault → Rose (K.faults out.old) (K.faults out.new) }
-    ensures files { S.files shelf.new ≡ S.files shelf.old }
-    ensures place_faults { S.place_faults shelf.new ≡ S.place_faults shelf.old }
-    ensures later { S.calls shelf.old ≤ S.calls shelf.new }
-    ensures calls { S.calls shelf.new ≤ S.calls shelf.old + command_calls (S.files shelf.old) (command_of (texts words.now)) }
+// The command with this word.
+#[tactic(auto, unfolding(crate::specs::Command::verb_of))]
+fn verb_of(word: &str) -> Option<Verb>
+    ensures { result ≡ verb_of word.now }
 {
-    answer(alloc, words, shelf, out)
+    verb_in(&VERBS, word)
+}
+
+// Whether a word may name a file.
+fn is_plain(word: &str) -> bool
+    ensures { result ≡ is_plain word.now }
+{
+    !word.is_empty() && !word.as_bytes().starts_with(b"-")
+}
+
+fn are_plain(names: &[String]) -> bool
+    ensures { result ≡ list_all is_plain (texts names.now) }
+{
+    match names {
+        [] => true,
+        [name, rest @ ..] => is_plain(name.as_str()) && are_plain(rest),
+    }
+}
+
+// Whether these are plain words, one for each file of the command.
+fn names_fit(verb: Verb, names: &[String]) -> bool
+    ensures { result ≡ names_fit verb (texts names.now) }
+{
+    names.len() == verb.operands().len() && are_plain(names)
+}
+
+/// A command and the names of its files.
+#[derive(Clone, Copy)]
+pub struct Command<'a> {
+    pub verb: Verb,
+    pub names: &'a [String],
+}
+
+// The command with these names, where they fit.
+fn with_names(verb: Verb, names: &[String]) -> Option<Command<'_>>
+    ensures value { option_map named result ≡ with_names (texts names.now) verb }
+    ensures count { IfSome result (λ c. length c.names.now ≡ length (operands_of c.verb)) }
+{
+    if names_fit(verb, names) {
+        Some(Command { verb, names })
+    } else {
+        None
+    }
+}
+
+/// The command, where the words are the program's name, the command's and exactly its operands.
+#[tactic(auto, unfolding(crate::specs::Command::command_of))]
+pub fn command_of(words: &[String]) -> Option<Command<'_>>
+    ensures value { option_map named result ≡ command_of (texts words.now) }
+    ensures count { IfSome result (λ c. length c.names.now ≡ length (operands_of c.verb)) }
+{
+    let [_, word, names @ ..] = words else {
+        return None;
+    };
+    with_names(verb_of(word.as_str())?, names)
 }

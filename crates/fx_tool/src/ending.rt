@@ -1,8 +1,6 @@
-ghost use Rattle.std.specs.Prelude.{◌≡◌, ◌≢◌, Ok, IfOk, IsTrue, MatchResult};
+ghost use Rattle.std.specs.Prelude.{◌≡◌, ◌≢◌, ◌⊎◌, ◌≤◌, IfOk, IsTrue};
 ghost use Rattle.fx_io.specs.Causes.{Rose};
-ghost use Rattle.fx_io.specs.declared.shelf.IoFault.TheVariants.{NoMemory};
-ghost use Rattle.fx_tool.specs.Answer.{says};
-ghost use Rattle.fx_tool.specs.Clauses.{Gives};
+ghost use Rattle.fx_tool.specs.Answer.{says, Delivers};
 ghost use Rattle.fx_tool.specs.Status.{is_spoken, IsBuiltStatus};
 
 use crate::status::Status;
@@ -48,25 +46,17 @@ impl Ending {
 
     /// Puts the text, and ends with the status.
     pub fn put<K: Sink>(&self, out: &mut K) -> Status
-        ensures gives { Gives self.now result (K.told out.old) (K.told out.new) }
+        ensures delivers { Delivers self.now result (K.seen out.old).told (K.seen out.new).told }
         ensures spoken { result ≢ Status.ReadFault }
         ensures only { IsBuiltStatus result }
-        ensures cause { result ≡ Status.WriteFault → Rose (K.faults out.old) (K.faults out.new) }
+        ensures cause { result ≡ Status.WriteFault → Rose (K.seen out.old).faults (K.seen out.new).faults }
+        ensures kept { ((K.seen out.new).faults ≡ (K.seen out.old).faults) ⊎ (result ≡ Status.WriteFault) }
+        ensures later { (K.seen out.old).faults ≤ (K.seen out.new).faults }
     {
         match put_all(out, &self.text) {
             Ok(()) => self.status,
             Err(IoFault::Failed) => Status::WriteFault,
             Err(IoFault::NoMemory) => Status::NoMemory,
         }
-    }
-}
-
-/// An ending, or want of memory as a fault of the run.
-pub fn ended(ending: Result<Ending, AllocError>) -> Result<Ending, IoFault>
-    ensures { MatchResult result (λ e. ending ≡ Ok e) (λ fault. fault ≡ NoMemory) }
-{
-    match ending {
-        Ok(ending) => Ok(ending),
-        Err(_) => Err(IoFault::NoMemory),
     }
 }

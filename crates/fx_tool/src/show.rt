@@ -1,13 +1,15 @@
-ghost use Rattle.std.specs.Prelude.{◌≡◌, ◌≢◌, IfOk, IsTrue};
+//! `show`.
+ghost use Rattle.std.specs.Prelude.{◌≡◌, ◌≢◌, ◌∷◌, [], IfOk, IsTrue};
 ghost use Rattle.fx_files.specs.Reading.{filter_of_bytes};
 ghost use Rattle.fx_keys.specs.declared.fault.FilterFault.TheVariants.{NoMemory};
 ghost use Rattle.fx_lines.specs.FilterFault.{filter_fault_line};
-ghost use Rattle.fx_tool.specs.Answer.{file_limit, says, show_answer, shown};
-ghost use Rattle.fx_tool.specs.Clauses.{WhereTold};
-ghost use Rattle.fx_tool.specs.Reading.{OnlyReads, read_calls};
+ghost use Rattle.fx_tool.specs.Answer.{says};
+ghost use Rattle.fx_tool.specs.Plan.{Follows};
+ghost use Rattle.fx_tool.specs.Show.{show_plan, shown};
+ghost use Rattle.fx_tool.specs.declared.operand.Operand.TheVariants.{Filter};
 
-use crate::ending::{Ending, ended};
-use crate::reading::{FILE_LIMIT, read_file};
+use crate::ending::Ending;
+use crate::operand::{Operand, read_operand, too_long};
 use crate::status::Status;
 use fx_files::{FilterFault, read_filter};
 use fx_io::{IoFault, Shelf};
@@ -39,15 +41,14 @@ fn shown(alloc: Global, bytes: &[u8]) -> Result<Ending, AllocError>
 ///
 /// # Errors
 ///
-/// `Failed` only where the shelf's count of read faults rose.
+/// `Failed` just where the shelf's count of read faults rose.
 pub fn show<S: Shelf>(alloc: Global, filter: &str, shelf: &mut S) -> Result<Ending, IoFault>
-    requires { IsTrue (S.readable shelf.old filter.now) }
-
-    ensures answer { IfOk result (λ e. WhereTold (S.files shelf.old) (λ files. show_answer files filter.now ≡ e)) }
-    ensures shelf { OnlyReads S.files S.read_faults S.place_faults S.calls S.readable (read_calls file_limit (S.files shelf.old) filter.now) shelf.old shelf.new result }
+    requires { IsTrue ((S.seen shelf.old).readable filter.now) }
+    ensures { Follows (Filter ∷ []) (filter.now ∷ []) show_plan
+        (S.seen shelf.old) (S.seen shelf.new) result }
 {
-    match read_file(alloc, shelf, filter, FILE_LIMIT)? {
-        Some(bytes) => ended(shown(alloc, &bytes)),
-        None => ended(Ending::line(alloc, Status::TooLong, "too long FILTER\n")),
+    match read_operand(alloc, Operand::Filter, filter, shelf)? {
+        Some(bytes) => Ok(shown(alloc, &bytes)?),
+        None => too_long(alloc, Operand::Filter),
     }
 }

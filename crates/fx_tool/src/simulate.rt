@@ -1,16 +1,19 @@
-ghost use Rattle.std.specs.Prelude.{◌≡◌, ◌≢◌, ◌+◌, IfOk, IsTrue};
+//! `simulate`.
+ghost use Rattle.std.specs.Prelude.{◌≡◌, ◌≢◌, ◌∷◌, [], Ok, IfOk, IsTrue};
 ghost use Rattle.fx_code.specs.Code.{IsWhole};
 ghost use Rattle.fx_lines.specs.CodeFault.{code_fault_line};
 ghost use Rattle.fx_lines.specs.SampleFault.{sample_fault_line};
 ghost use Rattle.fx_sim.specs.Simulation.{simulation};
 ghost use Rattle.fx_sim.specs.declared.fault.SampleFault.TheVariants as samples;
+ghost use Rattle.fx_text.specs.Reading.{code_in};
 ghost use Rattle.fx_text.specs.declared.fault.CodeFault.TheVariants as code;
-ghost use Rattle.fx_tool.specs.Answer.{file_limit, run_answer, samples_answer, samples_limit, says, simulate_answer};
-ghost use Rattle.fx_tool.specs.Clauses.{samples_calls, WhereTold};
-ghost use Rattle.fx_tool.specs.Reading.{OnlyReads, read_calls};
+ghost use Rattle.fx_tool.specs.Answer.{says};
+ghost use Rattle.fx_tool.specs.Plan.{Follows};
+ghost use Rattle.fx_tool.specs.Simulate.{outputs, samples_plan, simulate_plan};
+ghost use Rattle.fx_tool.specs.declared.operand.Operand.TheVariants.{Code, Samples};
 
-use crate::ending::{Ending, ended};
-use crate::reading::{FILE_LIMIT, read_file};
+use crate::ending::Ending;
+use crate::operand::{Operand, read_operand, too_long};
 use crate::status::Status;
 use fx_code::Program;
 use fx_io::{IoFault, Shelf};
@@ -18,9 +21,6 @@ use fx_lines::{code_fault_line, sample_fault_line};
 use fx_sim::{SampleFault, simulate as run_on};
 use fx_text::{CodeFault, read_code};
 use std::alloc::{AllocError, Global};
-
-// The most bytes that samples may have.
-const SAMPLES_LIMIT: usize = 16_777_216;
 
 // Refused code ends the run with its line.
 fn refused_code(alloc: Global, fault: &CodeFault) -> Result<Ending, AllocError>
@@ -47,7 +47,7 @@ fn refused_samples(alloc: Global, fault: &SampleFault) -> Result<Ending, AllocEr
 // How a program's run on samples ends: its outputs are put, or the samples' first fault is told.
 fn ran(alloc: Global, program: &Program, samples: &[u8]) -> Result<Ending, AllocError>
     requires { IsWhole program.now }
-    ensures { IfOk result (λ e. run_answer (simulation program.now samples.now) ≡ e) }
+    ensures { IfOk result (λ e. outputs (simulation program.now samples.now) ≡ e) }
 {
     match run_on(alloc, program, samples) {
         Ok(text) => Ok(Ending::new(Status::Done, text)),
@@ -63,14 +63,30 @@ fn with_samples<S: Shelf>(
     shelf: &mut S,
 ) -> Result<Ending, IoFault>
     requires whole { IsWhole program.now }
-    requires readable { IsTrue (S.readable shelf.old samples.now) }
-
-    ensures answer { IfOk result (λ e. WhereTold (S.files shelf.old) (λ files. samples_answer files samples.now program.now ≡ e)) }
-    ensures shelf { OnlyReads S.files S.read_faults S.place_faults S.calls S.readable (read_calls samples_limit (S.files shelf.old) samples.now) shelf.old shelf.new result }
+    requires readable { IsTrue ((S.seen shelf.old).readable samples.now) }
+    ensures { Follows (Samples ∷ []) (samples.now ∷ []) (samples_plan (Ok program.now))
+        (S.seen shelf.old) (S.seen shelf.new) result }
 {
-    match read_file(alloc, shelf, samples, SAMPLES_LIMIT)? {
-        Some(bytes) => ended(ran(alloc, program, &bytes)),
-        None => ended(Ending::line(alloc, Status::TooLong, "too long SAMPLES\n")),
+    match read_operand(alloc, Operand::Samples, samples, shelf)? {
+        Some(bytes) => Ok(ran(alloc, program, &bytes)?),
+        None => too_long(alloc, Operand::Samples),
+    }
+}
+
+// Goes on with the bytes of a program, or refuses them.
+fn with_code<S: Shelf>(
+    alloc: Global,
+    bytes: &[u8],
+    samples: &str,
+    shelf: &mut S,
+) -> Result<Ending, IoFault>
+    requires { IsTrue ((S.seen shelf.old).readable samples.now) }
+    ensures { Follows (Samples ∷ []) (samples.now ∷ []) (samples_plan (code_in bytes.now))
+        (S.seen shelf.old) (S.seen shelf.new) result }
+{
+    match read_code(alloc, bytes) {
+        Ok(program) => with_samples(alloc, &program, samples, shelf),
+        Err(fault) => Ok(refused_code(alloc, &fault)?),
     }
 }
 
@@ -78,24 +94,20 @@ fn with_samples<S: Shelf>(
 ///
 /// # Errors
 ///
-/// `Failed` only where the shelf's count of read faults rose.
+/// `Failed` just where the shelf's count of read faults rose.
 pub fn simulate<S: Shelf>(
     alloc: Global,
     code: &str,
     samples: &str,
     shelf: &mut S,
 ) -> Result<Ending, IoFault>
-    requires code { IsTrue (S.readable shelf.old code.now) }
-    requires samples { IsTrue (S.readable shelf.old samples.now) }
-
-    ensures answer { IfOk result (λ e. WhereTold (S.files shelf.old) (λ files. simulate_answer files code.now samples.now ≡ e)) }
-    ensures shelf { OnlyReads S.files S.read_faults S.place_faults S.calls S.readable (read_calls file_limit (S.files shelf.old) code.now + samples_calls (S.files shelf.old) code.now samples.now) shelf.old shelf.new result }
+    requires code { IsTrue ((S.seen shelf.old).readable code.now) }
+    requires samples { IsTrue ((S.seen shelf.old).readable samples.now) }
+    ensures { Follows (Code ∷ Samples ∷ []) (code.now ∷ samples.now ∷ []) simulate_plan
+        (S.seen shelf.old) (S.seen shelf.new) result }
 {
-    let Some(bytes) = read_file(alloc, shelf, code, FILE_LIMIT)? else {
-        return ended(Ending::line(alloc, Status::TooLong, "too long CODE\n"));
-    };
-    match read_code(alloc, &bytes) {
-        Ok(program) => with_samples(alloc, &program, samples, shelf),
-        Err(fault) => ended(refused_code(alloc, &fault)),
+    match read_operand(alloc, Operand::Code, code, shelf)? {
+        Some(bytes) => with_code(alloc, &bytes, samples, shelf),
+        None => too_long(alloc, Operand::Code),
     }
 }

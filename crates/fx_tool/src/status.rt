@@ -34,6 +34,9 @@ pub enum Status {
     NotBuiltYet,
 }
 
+/// The number that the program ends with where the words of its command line cannot be had as texts. No run ends so.
+pub const NO_WORDS: u8 = 14;
+
 impl Status {
     /// The number that the program ends with.
     pub fn number(self) -> u8

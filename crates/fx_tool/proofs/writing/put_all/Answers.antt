@@ -2,8 +2,8 @@ use Rattle.std.proofs.Common.{arith}
 use Rattle.fx_tool.proofs.WrittenSoFar.{put_next}
 use Rattle.fx_tool.proofs.writing.put_all.Goals as goal
 
-pub loop-rest-preserved : goal.loop-rest-preserved
-loop-rest-preserved g c = record {
-  put = put_next (g.K.Sink.told c.args.out.now) (g.K.Sink.told c.loop-rest.out) (g.K.Sink.told c.put.new.self) c.args.text.now c.loop-rest.rest.now c.in_ok-count.count c.in_ok-count.ensures.within c.loop-rest.invariant.put c.in_ok-count.ensures.told;
-  faults = omega (arith, c.loop-rest.invariant.faults, c.in_ok-count.ensures.cause.later);
+pub rest-preserved : goal.rest-preserved
+rest-preserved g c = record {
+  put = put_next (g.K.Sink.seen c.args.out.now).told (g.K.Sink.seen c.rest.out).told (g.K.Sink.seen c.put_some.new.out).told c.args.text.now c.rest.rest.now c.in_ok-count.count c.in_ok-count.ensures.some.1 c.rest.invariant.put c.in_ok-count.ensures.told;
+  faults = grind (arith, c.rest.invariant.faults, c.in_ok-count.ensures.cause.kept);
 }

@@ -1,14 +1,15 @@
-use Rattle.std.proofs.Common.{◌≤◌, length}
+use Rattle.std.proofs.Common.{◌≡◌, length}
 use Rattle.fx_tool.proofs.WrittenSoFar.{IsPut}
 use Rattle.fx_tool.proofs.writing.put_all.Given as goal
 
-abbrev pub invariant-loop-rest : goal.invariant-loop-rest
-invariant-loop-rest g l =
-    let K = g.K.Sink in
+abbrev pub invariant-rest : goal.invariant-rest
+invariant-rest g l =
+    let before = g.K.Sink.seen l.fn.out in
+    let now = g.K.Sink.seen l.out in
     record {
-      put : IsPut l.text l.rest (K.told l.fn.out) (K.told l.out);
-      faults : K.faults l.fn.out ≤ K.faults l.out;
+      put : IsPut l.text l.rest before.told now.told;
+      faults : now.faults ≡ before.faults;
     }
 
-abbrev pub decreases-loop-rest : goal.decreases-loop-rest
-decreases-loop-rest g l = length l.rest
+abbrev pub decreases-rest : goal.decreases-rest
+decreases-rest g l = length l.rest

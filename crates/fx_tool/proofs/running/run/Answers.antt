@@ -1,0 +1,17 @@
+use Rattle.fx_tool.specs.Command.{texts}
+use Rattle.fx_tool.proofs.Answering.{places_nothing}
+use Rattle.fx_tool.proofs.Headline.{done_claims}
+use Rattle.fx_tool.proofs.running.run.Goals as goal
+
+pub returns : goal.returns
+returns g c =
+    let words = texts c.args.words.now in
+    let before = g.S.Shelf.seen c.args.shelf.now in
+    let after = g.S.Shelf.seen c.answer.new.shelf in
+    let out = g.K.Sink.seen c.args.out.now in
+    let out' = g.K.Sink.seen c.answer.new.out in
+    record {
+      done = λ h. done_claims words before.files c.answer.result out.told out'.told h c.answer.ensures.answer;
+      placed = places_nothing words before.files after.files c.answer.result c.answer.ensures.files;
+      leaves = c.answer.ensures;
+    }

@@ -1,0 +1,108 @@
+-- What a run of a command line promises.
+use Rattle.std.specs.Prelude.{◌≡◌, ◌⊎◌, ℕ, ◌+◌, ◌≤◌, List, [], ◌∷◌, codes, Option, Some, None, Result, IsSomeAnd}
+use Rattle.std.specs.FinMap.{insert}
+use Rattle.fx_io.specs.Causes.{Rose}
+use Rattle.fx_io.specs.Outside.{Outside, Output}
+use Rattle.fx_io.specs.Shelf.{Files, KeepsNames}
+use Rattle.fx_io.specs.declared.shelf.IoFault.{IoFault}
+use Rattle.fx_tool.specs.Answer.{Answer, says, Delivers}
+use Rattle.fx_tool.specs.Check.{check_plan, Headline}
+use Rattle.fx_tool.specs.Command.{Command, command_of, operands_of}
+use Rattle.fx_tool.specs.Plan.{Plan, Ends, answer_by, plan_calls, Follows, MayRead, OfAnswer, WhereTold}
+use Rattle.fx_tool.specs.Show.{show_plan, Shows}
+use Rattle.fx_tool.specs.Simulate.{simulate_plan, Simulates}
+use Rattle.fx_tool.specs.Status.{IsBuiltStatus}
+use Rattle.fx_tool.specs.declared.command.Verb.{Verb}
+use Rattle.fx_tool.specs.declared.command.Verb.TheVariants.{Check, Show, Simulate}
+use Rattle.fx_tool.specs.declared.operand.Operand.{Operand}
+use Rattle.fx_tool.specs.declared.status.Status.{Status}
+use Rattle.fx_tool.specs.declared.status.Status.TheVariants.{Done, ReadFault, WriteFault, NotBuiltYet}
+
+-- ---- one arm for each command
+
+abbrev pub plan_of : Verb → Plan
+plan_of Check = check_plan
+plan_of Show = show_plan
+plan_of Simulate = simulate_plan
+
+-- what status 0 claims, of the files of these names and of the bytes before and after
+abbrev pub Claims : Verb → List (List ℕ) → Files → Option (List ℕ) → Option (List ℕ) → Type 0
+Claims Check (filter ∷ code ∷ cert ∷ _) files before after = Headline files filter code cert before after
+Claims Show (filter ∷ _) files before after = Shows files filter before after
+Claims Simulate (code ∷ samples ∷ _) files before after = Simulates files code samples before after
+Claims _ _ files before after = ⊥
+
+-- ---- what the words ask for, with words that are no command
+
+abbrev pub operands_to : Option Command → List Operand
+operands_to None = []
+operands_to (Some c) = operands_of c.verb
+
+abbrev pub names_to : Option Command → List (List ℕ)
+names_to None = []
+names_to (Some c) = c.names
+
+abbrev pub plan_to : Option Command → Plan
+plan_to None = Ends (says NotBuiltYet (codes "not built yet words\n"))
+plan_to (Some c) = plan_of c.verb
+
+-- the files that the words name may be read
+abbrev pub CanRead : Outside → List (List ℕ) → Type 0
+CanRead outside words = MayRead outside (names_to (command_of words))
+
+-- the answer of the words on these files
+abbrev pub answer_of : List (List ℕ) → Files → Answer
+answer_of words files = let c = command_of words in answer_by (operands_to c) (names_to c) (plan_to c) files
+
+-- P holds of the answer, where the shelf tells its files or none is read
+abbrev pub OfWords : List (List ℕ) → Option Files → (Answer → Type 0) → Type 0
+OfWords words told P = let c = command_of words in OfAnswer (operands_to c) (names_to c) (plan_to c) told P
+
+-- the most calls on the shelf
+abbrev pub calls_of : List (List ℕ) → Option Files → ℕ
+calls_of words told = let c = command_of words in plan_calls (operands_to c) (names_to c) (plan_to c) told
+
+-- the run follows the plan of the words
+abbrev pub FollowsWords : List (List ℕ) → Outside → Outside → Result Answer IoFault → Type 0
+FollowsWords words before now result = let c = command_of words in Follows (operands_to c) (names_to c) (plan_to c) before now result
+
+-- ---- a run
+
+-- the files with what was placed
+abbrev pub with_placed : List (List ℕ × List ℕ) → Files → Files
+with_placed [] files = files
+with_placed (p ∷ ps) files = with_placed ps (insert files p.0 p.1)
+
+-- with the answer's status the files are the old ones with those that it places
+abbrev pub PlacesAnswer : List (List ℕ) → Option Files → Option Files → Status → Type 0
+PlacesAnswer words before after status =
+    WhereTold before (λ files. status ≡ (answer_of words files).status → after ≡ Some (with_placed (answer_of words files).placed files))
+
+-- what status 0 claims, where the shelf tells its files
+abbrev pub DoneClaims : List (List ℕ) → Option Files → Option (List ℕ) → Option (List ℕ) → Type 0
+DoneClaims words told before after =
+    WhereTold told (λ files. IsSomeAnd (command_of words) (λ c. Claims c.verb c.names files before after))
+
+-- What a run gives, and leaves of shelf and output. The status and the text are those of the answer, or a read, a write or
+-- memory failed; a fault was counted just where it is the status. The shelf was only read, in no more calls than the plan takes.
+pub record Leaves (words : List (List ℕ)) (shelf shelf' : Outside) (out out' : Output) (status : Status) : Type 0 where
+  pub answer : OfWords words shelf.files (λ a. Delivers a status out.told out'.told)
+  pub quiet : status ≡ ReadFault → out'.told ≡ out.told
+  pub only : IsBuiltStatus status
+  pub read_fault : status ≡ ReadFault → Rose shelf.read_faults shelf'.read_faults
+  pub write_fault : status ≡ WriteFault → Rose out.faults out'.faults
+  pub kept_reads : (shelf'.read_faults ≡ shelf.read_faults) ⊎ (status ≡ ReadFault)
+  pub kept_writes : (out'.faults ≡ out.faults) ⊎ (status ≡ WriteFault)
+  pub later_reads : shelf.read_faults ≤ shelf'.read_faults
+  pub later_writes : out.faults ≤ out'.faults
+  pub place_faults : shelf'.place_faults ≡ shelf.place_faults
+  pub files : shelf'.files ≡ shelf.files
+  pub later : shelf.calls ≤ shelf'.calls
+  pub calls : shelf'.calls ≤ shelf.calls + calls_of words shelf.files
+  pub names : KeepsNames shelf.readable shelf'.readable
+
+-- The same, with the files that the answer places; and status 0 keeps what its command claims.
+pub record Runs (words : List (List ℕ)) (shelf shelf' : Outside) (out out' : Output) (status : Status) : Type 0 where
+  pub done : status ≡ Done → DoneClaims words shelf.files out.told out'.told
+  pub placed : PlacesAnswer words shelf.files shelf'.files status
+  pub leaves : Leaves words shelf shelf' out out' status

@@ -1,0 +1,100 @@
+//! The files of a command.
+ghost use Rattle.std.specs.Prelude.{◌≡◌, IfOk, IfErr, IsTrue, option_map};
+ghost use Rattle.fx_io.specs.Outside.{OnlyReads};
+ghost use Rattle.fx_io.specs.declared.shelf.IoFault.TheVariants.{NoMemory};
+ghost use Rattle.fx_tool.specs.Operand.{limit_of, too_long};
+ghost use Rattle.fx_tool.specs.Reading.{Has, HoldsContent, read_calls};
+
+use crate::ending::Ending;
+use crate::reading::read_file;
+use crate::status::Status;
+use fx_io::{IoFault, Shelf};
+use std::alloc::Global;
+
+/// The most bytes of a filter or of code.
+pub const LONGEST_FILE: usize = 1_048_576;
+
+/// The most bytes of samples.
+pub const LONGEST_SAMPLES: usize = 16_777_216;
+
+/// The most bytes of a file of the one layout that `check` reads so far.
+pub const LONGEST_BUILT: usize = 4096;
+
+/// A file that a command reads.
+#[derive(Clone, Copy, Debug, PartialEq, Eq)]
+pub enum Operand {
+    /// A filter.
+    Filter,
+    /// A program.
+    Code,
+    /// Samples.
+    Samples,
+    /// A filter of the one layout that `check` reads so far.
+    BuiltFilter,
+    /// A program of that layout.
+    BuiltCode,
+    /// A certificate of that layout.
+    BuiltCertificate,
+}
+
+impl Operand {
+    /// The most bytes that the file may have.
+    pub fn limit(self) -> usize
+        ensures { result ≡ limit_of self }
+    {
+        match self {
+            Operand::Filter | Operand::Code => LONGEST_FILE,
+            Operand::Samples => LONGEST_SAMPLES,
+            Operand::BuiltFilter | Operand::BuiltCode | Operand::BuiltCertificate => LONGEST_BUILT,
+        }
+    }
+
+    // The status and the line of a longer file.
+    fn too_long(self) -> (Status, &'static str)
+        ensures status { result.0 ≡ (too_long self).status }
+        ensures line { result.1.now ≡ (too_long self).text }
+    {
+        match self {
+            Operand::Filter => (Status::TooLong, "too long FILTER\n"),
+            Operand::Code => (Status::TooLong, "too long CODE\n"),
+            Operand::Samples => (Status::TooLong, "too long SAMPLES\n"),
+            Operand::BuiltFilter => (Status::NotBuiltYet, "not built yet filter\n"),
+            Operand::BuiltCode => (Status::NotBuiltYet, "not built yet code\n"),
+            Operand::BuiltCertificate => (Status::NotBuiltYet, "not built yet certificate\n"),
+        }
+    }
+}
+
+/// Reads the file of an operand whole, where it is no longer than its limit.
+///
+/// # Errors
+///
+/// `Failed` just where the shelf's count of read faults rose.
+pub fn read_operand<S: Shelf>(
+    alloc: Global,
+    operand: Operand,
+    name: &str,
+    shelf: &mut S,
+) -> Result<Option<Vec<u8>>, IoFault>
+    requires { IsTrue ((S.seen shelf.old).readable name.now) }
+
+    ensures content { IfOk result (λ r. Has (S.seen shelf.old).files name.now
+        (HoldsContent (limit_of operand) (option_map (λ bytes. bytes.items) r))) }
+    ensures shelf { OnlyReads (read_calls (limit_of operand) (S.seen shelf.old).files name.now)
+        (S.seen shelf.old) (S.seen shelf.new) result }
+{
+    read_file(alloc, shelf, name, operand.limit())
+}
+
+/// How a run ends whose file is longer than its limit.
+///
+/// # Errors
+///
+/// Want of memory.
+pub fn too_long(alloc: Global, operand: Operand) -> Result<Ending, IoFault>
+    ensures answer { IfOk result (λ e. e ≡ too_long operand) }
+    ensures fault { IfErr result (λ fault. fault ≡ NoMemory) }
+{
+    let (status, line) = operand.too_long();
+    Ok(Ending::line(alloc, status, line)?)
+}

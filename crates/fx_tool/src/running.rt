@@ -1,0 +1,78 @@
+//! A run of a command line.
+ghost use Rattle.std.specs.Prelude.{◌≡◌, length};
+ghost use Rattle.fx_tool.specs.Command.{operands_of, texts};
+ghost use Rattle.fx_tool.specs.Plan.{Follows, MayRead};
+ghost use Rattle.fx_tool.specs.Running.{plan_of, CanRead, FollowsWords, Leaves, Runs};
+
+use crate::check::check;
+use crate::command::{Verb, command_of};
+use crate::ending::Ending;
+use crate::show::show;
+use crate::simulate::simulate;
+use crate::status::Status;
+use fx_io::{IoFault, Shelf, Sink};
+use std::alloc::Global;
+
+// Reads what a command reads, and says how the run ends.
+fn command_ending<S: Shelf>(
+    alloc: Global,
+    verb: Verb,
+    names: &[String],
+    shelf: &mut S,
+) -> Result<Ending, IoFault>
+    requires count { length names.now ≡ length (operands_of verb) }
+    requires readable { MayRead (S.seen shelf.old) (texts names.now) }
+    ensures { Follows (operands_of verb) (texts names.now) (plan_of verb)
+        (S.seen shelf.old) (S.seen shelf.new) result }
+{
+    match (verb, names) {
+        (Verb::Check, [filter, code, cert]) => {
+            check(alloc, filter.as_str(), code.as_str(), cert.as_str(), shelf)
+        }
+        (Verb::Show, [filter]) => show(alloc, filter.as_str(), shelf),
+        (Verb::Simulate, [code, samples]) => {
+            simulate(alloc, code.as_str(), samples.as_str(), shelf)
+        }
+        _ => unreachable!(),
+    }
+}
+
+// The same for the words of a command line.
+fn ending<S: Shelf>(alloc: Global, words: &[String], shelf: &mut S) -> Result<Ending, IoFault>
+    requires { CanRead (S.seen shelf.old) (texts words.now) }
+    ensures { FollowsWords (texts words.now) (S.seen shelf.old) (S.seen shelf.new) result }
+{
+    match command_of(words) {
+        Some(command) => command_ending(alloc, command.verb, command.names, shelf),
+        None => Ok(Ending::line(alloc, Status::NotBuiltYet, "not built yet words\n")?),
+    }
+}
+
+// Runs a command line, and gives the answer of its words and files.
+fn answer<S: Shelf, K: Sink>(alloc: Global, words: &[String], shelf: &mut S, out: &mut K) -> Status
+    requires { CanRead (S.seen shelf.old) (texts words.now) }
+    ensures { Leaves (texts words.now) (S.seen shelf.old) (S.seen shelf.new)
+        (K.seen out.old) (K.seen out.new) result }
+{
+    match ending(alloc, words, shelf) {
+        Ok(ending) => ending.put(out),
+        Err(IoFault::Failed) => Status::ReadFault,
+        Err(IoFault::NoMemory) => Status::NoMemory,
+    }
+}
+
+/// Runs a command line: the program's name, a command and its operands. It reads the files that the words name and puts
+/// a text; what it gives is the answer of the words and the files, unless a read, a write or memory fails. Then nothing is
+/// put after a failed read, and the first bytes of the text after a failed write or want of memory.
+///
+/// With `Done` of `check`: for every list of input words within the filter's bounds, of any length, every row of the code
+/// ends with the exact sum in its accumulator, every stored word lies in its format, and every output differs from the
+/// filter's exact output by at most the certificate's error, which is the one printed. With `Done` of the other commands:
+/// the files were read as what they stand for, and all of that was put.
+pub fn run<S: Shelf, K: Sink>(alloc: Global, words: &[String], shelf: &mut S, out: &mut K) -> Status
+    requires { CanRead (S.seen shelf.old) (texts words.now) }
+    ensures { Runs (texts words.now) (S.seen shelf.old) (S.seen shelf.new)
+        (K.seen out.old) (K.seen out.new) result }
+{
+    answer(alloc, words, shelf, out)
+}
