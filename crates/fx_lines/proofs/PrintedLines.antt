@@ -8,7 +8,7 @@ use Rattle.std.specs.Fmt.{digit_glyph, digits, digits_onto, signed_decimal}
 use Rattle.std.specs.List.{flat_map, list_all}
 use Rattle.fx_decimal.specs.declared.fault.DecimalFault.{DecimalFault}
 use Rattle.fx_decimal.specs.declared.fault.DecimalFault.TheVariants.{Empty, BadByte, TooManyDigits, TooFine, TooLarge}
-use Rattle.fx_keys.specs.Names.{name_of}
+use Rattle.fx_keys.specs.Keys.{name_of}
 use Rattle.fx_keys.specs.declared.key.Key.{Key}
 use Rattle.fx_keys.specs.declared.key.Key.TheVariants as key
 use Rattle.fx_keys.specs.declared.fault.FilterFault.TheVariants.{NotToml, Missing, WrongKind, Numeral, NotMonic, Shape, Limit, UnknownKey, UnknownWord, NoMemory}
