@@ -1,6 +1,14 @@
 pub mod AssembledFits
 pub mod CutLists
+pub mod Examples
+pub mod HeldChoices
+pub mod HeldCoefficients
+pub mod HeldFilter
+pub mod HeldNumbers
+pub mod HeldNumerals
+pub mod HeldTables
 pub mod ListsOverTen
 pub mod OutputsAgree
 pub mod SectionsMonic
+pub mod Steps
 pub mod TermsOverTen

@@ -1,9 +1,11 @@
 pub mod Building
 pub mod Coefficients
+pub mod Describes
 pub mod Filter
 pub mod Fits
 pub mod Forms
 pub mod Head
+pub mod Holds
 pub mod Inside
 pub mod Lists
 pub mod Ports

@@ -8,7 +8,7 @@ use Rattle.std.specs.Fmt.{digit_glyph, digits, digits_onto, signed_decimal}
 use Rattle.std.specs.List.{flat_map, list_all}
 use Rattle.fx_decimal.specs.declared.fault.DecimalFault.{DecimalFault}
 use Rattle.fx_decimal.specs.declared.fault.DecimalFault.TheVariants.{Empty, BadByte, TooManyDigits, TooFine, TooLarge}
-use Rattle.fx_keys.specs.Names.{name_of}
+use Rattle.fx_keys.specs.Keys.{name_of}
 use Rattle.fx_keys.specs.declared.key.Key.{Key}
 use Rattle.fx_keys.specs.declared.key.Key.TheVariants as key
 use Rattle.fx_keys.specs.declared.fault.FilterFault.TheVariants.{NotToml, Missing, WrongKind, Numeral, NotMonic, Shape, Limit, UnknownKey, UnknownWord, NoMemory}
@@ -25,7 +25,7 @@ both_printed : (a b : List ℕ) → Printed a → Printed b → Printed (a ++ b)
 both_printed a b first second = list_all-append is_printed a b ∙ rw (first, second) refl
 
 above_controls : (c : ℕ) → 32 ≤ c → c ≢ 127 → is_printed c ≡ true
-above_controls c low other = rw (le-ltb 32 c low, ne_eqb c 127 other) refl
+above_controls c low other = rw (le-ltb c 32 low, ne_eqb c 127 other) refl
 
 digit_printed : (upper : Bool) (d : ℕ) → d < 16 → is_printed (digit_glyph upper d) ≡ true
 digit_printed upper d few =
@@ -87,7 +87,7 @@ byte_printed c = elim (cases_Bool (is_control c)) [
       let first = digit_printed true (c / 16) (omega arith) in
       let second = digit_printed true (c % 16) (omega arith) in
       let digits_of : Printed (digit_glyph true (c / 16) ∷ digit_glyph true (c % 16) ∷ []) = rw (first, second) refl in
-      rw control (both_printed (codes "\\x") _ refl digits_of)
+      rw control (both_printed (codes "\\x") (digit_glyph true (c / 16) ∷ digit_glyph true (c % 16) ∷ []) refl digits_of)
   | inr printed ↦ rw printed (let is : is_printed c ≡ true = rw printed refl in rw is refl)
 ]
 
@@ -115,17 +115,28 @@ keyed words k printed = both_printed words (name_of k) printed (name_printed k)
 more : (front part : List ℕ) → Printed front → Printed part → Printed (front ++ codes " " ++ part)
 more front part first second = both_printed (front ++ codes " ") part (both_printed front (codes " ") first refl) second
 
+-- ---- the three forms of a line: words and a key, and one number or two behind them
+
+key_line : (words : List ℕ) (k : Key) → Printed words → IsLine (words ++ name_of k ++ codes "\n")
+key_line words k printed = line_of (words ++ name_of k) (keyed words k printed)
+
+number_line : (words : List ℕ) (k : Key) (part : List ℕ) → Printed words → Printed part → IsLine (words ++ name_of k ++ codes " " ++ part ++ codes "\n")
+number_line words k part printed first = line_of (words ++ name_of k ++ codes " " ++ part) (more (words ++ name_of k) part (keyed words k printed) first)
+
+numbers_line : (words : List ℕ) (k : Key) (part other : List ℕ) → Printed words → Printed part → Printed other → IsLine (words ++ name_of k ++ codes " " ++ part ++ codes " " ++ other ++ codes "\n")
+numbers_line words k part other printed first second =
+    line_of (words ++ name_of k ++ codes " " ++ part ++ codes " " ++ other)
+    (more (words ++ name_of k ++ codes " " ++ part) other (more (words ++ name_of k) part (keyed words k printed) first) second)
+
 pub one_line : OneLine
 one_line NotToml there = line_of (codes "bad filter not toml") refl
-one_line (Missing k) there = line_of _ (keyed (codes "bad filter missing ") k refl)
-one_line (WrongKind k) there = line_of _ (keyed (codes "bad filter wrong kind ") k refl)
-one_line (Numeral k place why) there =
-    line_of _ (more _ (numeral_fault_text why) (more _ (decimal place) (keyed (codes "bad filter numeral ") k refl) (decimal_printed place)) (numeral_printed why))
-one_line (NotMonic k place) there = line_of _ (more _ (decimal place) (keyed (codes "bad filter not monic ") k refl) (decimal_printed place))
-one_line (Shape k got wanted) there =
-    line_of _ (more _ (decimal wanted) (more _ (decimal got) (keyed (codes "bad filter shape ") k refl) (decimal_printed got)) (decimal_printed wanted))
-one_line (Limit k got end) there =
-    line_of _ (more _ (signed_decimal end) (more _ (signed_decimal got) (keyed (codes "bad filter limit ") k refl) (signed_printed got)) (signed_printed end))
-one_line (UnknownKey text) there = line_of _ (both_printed (codes "bad filter unknown key ") (shown_key text) refl (key_printed text))
-one_line (UnknownWord k) there = line_of _ (keyed (codes "bad filter unknown word ") k refl)
+one_line (Missing k) there = key_line (codes "bad filter missing ") k refl
+one_line (WrongKind k) there = key_line (codes "bad filter wrong kind ") k refl
+one_line (Numeral k place why) there = numbers_line (codes "bad filter numeral ") k (decimal place) (numeral_fault_text why) refl (decimal_printed place) (numeral_printed why)
+one_line (NotMonic k place) there = number_line (codes "bad filter not monic ") k (decimal place) refl (decimal_printed place)
+one_line (Shape k got wanted) there = numbers_line (codes "bad filter shape ") k (decimal got) (decimal wanted) refl (decimal_printed got) (decimal_printed wanted)
+one_line (Limit k got end) there = numbers_line (codes "bad filter limit ") k (signed_decimal got) (signed_decimal end) refl (signed_printed got) (signed_printed end)
+one_line (UnknownKey text) there =
+    line_of (codes "bad filter unknown key " ++ shown_key text) (both_printed (codes "bad filter unknown key ") (shown_key text) refl (key_printed text))
+one_line (UnknownWord k) there = key_line (codes "bad filter unknown word ") k refl
 one_line NoMemory there = absurd (there refl)

@@ -2,6 +2,8 @@
 use Rattle.std.proofs.Common.{◌≡◌, inl, inr, ◌∙◌, ℕ, Bool, true, false, List, [], ◌∷◌, length, Option, Some, None, IsSomeAnd, Result, Ok, Err, refl, sym, ap, subst, nat_le, cond}
 use Rattle.std.specs.FinMap.{get}
 use Rattle.fx_io.specs.Shelf.{Files}
+use Rattle.fx_files.proofs.HeldFilter.{file_law}
+use Rattle.fx_files.specs.Describes.{IsFileOf}
 use Rattle.fx_files.specs.Reading.{filter_of_bytes}
 use Rattle.fx_files.specs.Filter.{Filter as WholeFilter}
 use Rattle.fx_keys.specs.declared.fault.FilterFault.{FilterFault}
@@ -99,7 +101,7 @@ show_done files names before after h grows =
     let (f, read, text) = shown_done (filter_of_bytes file.bytes) (along _ _ file.same h) in
     let claim : Shows files file.name before after = record {
       filter = f;
-      read = there (get files file.name) file.bytes (λ bytes. filter_of_bytes bytes ≡ Ok f) file.there read;
+      described = there (get files file.name) file.bytes (λ bytes. IsFileOf bytes f) file.there ((file_law file.bytes f).0 read);
       printed = subst (λ (t : List ℕ). GrowsBy t before after) (ap (λ (a : Answer). a.text) file.same ∙ text) grows;
     } in
     subst (λ (names : List (List ℕ)). Claims Show names files before after) (sym file.is) claim

@@ -2,6 +2,7 @@
 use Rattle.std.specs.Prelude.{◌≡◌, ℕ, List, Option, Result, Ok, Err, IsSomeAnd}
 use Rattle.std.specs.FinMap.{get}
 use Rattle.fx_io.specs.Shelf.{Files}
+use Rattle.fx_files.specs.Describes.{IsFileOf}
 use Rattle.fx_files.specs.Reading.{filter_of_bytes}
 use Rattle.fx_files.specs.Filter.{Filter as WholeFilter}
 use Rattle.fx_keys.specs.declared.fault.FilterFault.{FilterFault}
@@ -20,8 +21,8 @@ shown (Err fault) = says BadFilter (filter_fault_line fault)
 abbrev pub show_plan : Plan
 show_plan = Reads (λ filter. Ends (shown (filter_of_bytes filter)))
 
--- the file is read as a filter, and its lines were put
+-- the file is that of a filter, and the lines of this filter were put
 pub record Shows (files : Files) (name : List ℕ) (before after : Option (List ℕ)) : Type 0 where
   pub filter : WholeFilter
-  pub read : IsSomeAnd (get files name) (λ bytes. filter_of_bytes bytes ≡ Ok filter)
+  pub described : IsSomeAnd (get files name) (λ bytes. IsFileOf bytes filter)
   pub printed : GrowsBy (filter_lines filter) before after

@@ -93,6 +93,25 @@ fn with_code<S: Shelf>(
     }
 }
 
+// Reads a program, for a filter.
+fn with_constant<S: Shelf>(
+    alloc: Global,
+    filter: &ConstantFilter,
+    code: &str,
+    cert: &str,
+    shelf: &mut S,
+) -> Result<Ending, IoFault>
+    requires code { IsTrue ((S.seen shelf.old).readable code.now) }
+    requires cert { IsTrue ((S.seen shelf.old).readable cert.now) }
+    ensures { Follows (BuiltCode ∷ BuiltCertificate ∷ []) (code.now ∷ cert.now ∷ [])
+        (after_filter (Some filter.now)) (S.seen shelf.old) (S.seen shelf.new) result }
+{
+    match read_operand(alloc, Operand::BuiltCode, code, shelf)? {
+        Some(bytes) => with_code(alloc, filter, &bytes, cert, shelf),
+        None => too_long(alloc, Operand::BuiltCode),
+    }
+}
+
 // Goes on with the bytes of a filter.
 fn with_filter<S: Shelf>(
     alloc: Global,
@@ -106,12 +125,9 @@ fn with_filter<S: Shelf>(
     ensures { Follows (BuiltCode ∷ BuiltCertificate ∷ []) (code.now ∷ cert.now ∷ [])
         (after_filter (filter_in bytes.now)) (S.seen shelf.old) (S.seen shelf.new) result }
 {
-    let Some(filter) = read_filter_file(bytes) else {
-        return Ok(Ending::line(alloc, Status::NotBuiltYet, "not built yet filter\n")?);
-    };
-    match read_operand(alloc, Operand::BuiltCode, code, shelf)? {
-        Some(bytes) => with_code(alloc, &filter, &bytes, cert, shelf),
-        None => too_long(alloc, Operand::BuiltCode),
+    match read_filter_file(bytes) {
+        Some(filter) => with_constant(alloc, &filter, code, cert, shelf),
+        None => Ok(Ending::line(alloc, Status::NotBuiltYet, "not built yet filter\n")?),
     }
 }
 
