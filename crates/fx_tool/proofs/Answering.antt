@@ -1,8 +1,11 @@
 -- What the answers of the plans have in common, and what a run gives of them that fails before its text.
-use Rattle.std.proofs.Common.{◌≡◌, ◌⊎◌, inl, inr, ℕ, nat_le, Bool, true, false, cond, IsTrue, List, [], ◌∷◌, length, Option, Some, None, Result, Ok, Err, refl, sym, ap, subst, ◌∙◌}
+use Rattle.std.proofs.Common.{◌≡◌, ◌⊎◌, inl, inr, ℕ, nat_le, Bool, true, false, cond, IsTrue, arith, List, [], ◌∷◌, length, Option, Some, None, Result, Ok, Err, refl, sym, ap, subst, ◌∙◌}
 use Rattle.std.proofs.lemmas.List.{append-nil}
 use Rattle.std.specs.FinMap.{get}
+use Rattle.fx_io.specs.Outside.{Outside, Output}
 use Rattle.fx_io.specs.Shelf.{Files}
+use Rattle.fx_io.specs.declared.shelf.IoFault.{IoFault}
+use Rattle.fx_io.specs.declared.shelf.IoFault.TheVariants as io
 use Rattle.fx_code.specs.Code.{Code}
 use Rattle.fx_files.specs.Reading.{filter_of_bytes}
 use Rattle.fx_files.specs.Filter.{Filter as WholeFilter}
@@ -22,7 +25,7 @@ use Rattle.fx_tool.specs.FilterReading.{filter_in}
 use Rattle.fx_tool.specs.Inequalities.{first_refusal}
 use Rattle.fx_tool.specs.Operand.{limit_of, too_long}
 use Rattle.fx_tool.specs.Plan.{Plan, Ends, Reads, by_content, when_short, answer_by, OfAnswer}
-use Rattle.fx_tool.specs.Running.{plan_of, operands_to, names_to, plan_to, answer_of, with_placed, OfWords, PlacesAnswer}
+use Rattle.fx_tool.specs.Running.{plan_of, operands_to, names_to, plan_to, answer_of, with_placed, FollowsWords, Leaves, OfWords, PlacesAnswer}
 use Rattle.fx_tool.specs.Show.{shown, show_plan}
 use Rattle.fx_tool.specs.Simulate.{outputs, samples_plan, simulate_plan}
 use Rattle.fx_tool.specs.Status.{is_spoken}
@@ -42,7 +45,7 @@ record IsSpoken (a : Answer) : Type 0 where
   status : IsTrue (is_spoken a.status)
   placed : a.placed ≡ []
 
-AllSpoken : Plan → Type 0
+abbrev AllSpoken : Plan → Type 0
 AllSpoken (Ends a) = IsSpoken a
 AllSpoken (Reads next) = (content : List ℕ) → AllSpoken (next content)
 
@@ -89,7 +92,7 @@ words_spoken (Some c) = verb_spoken c.verb
 
 -- ---- so each answer on files is such, or a file is absent
 
-IsUsual : Answer → Type 0
+abbrev IsUsual : Answer → Type 0
 IsUsual a = IsSpoken a ⊎ (a ≡ absent)
 
 long_spoken : (o : Operand) → IsSpoken (too_long o)
@@ -169,12 +172,56 @@ delivers_no_memory a before u = record {
   prefix = (0, grows_nothing before);
 }
 
-pub gives_read_fault : (words : List (List ℕ)) (told : Option Files) (before : Option (List ℕ)) → OfWords words told (λ a. Delivers a ReadFault before before)
+gives_read_fault : (words : List (List ℕ)) (told : Option Files) (before : Option (List ℕ)) → OfWords words told (λ a. Delivers a ReadFault before before)
 gives_read_fault words told before =
     let c = command_of words in
     of_plan (operands_to c) (names_to c) (plan_to c) told (λ a. Delivers a ReadFault before before) (words_spoken c) (λ a u. delivers_read_fault a before u)
 
-pub gives_no_memory : (words : List (List ℕ)) (told : Option Files) (before : Option (List ℕ)) → OfWords words told (λ a. Delivers a NoMemory before before)
+gives_no_memory : (words : List (List ℕ)) (told : Option Files) (before : Option (List ℕ)) → OfWords words told (λ a. Delivers a NoMemory before before)
 gives_no_memory words told before =
     let c = command_of words in
     of_plan (operands_to c) (names_to c) (plan_to c) told (λ a. Delivers a NoMemory before before) (words_spoken c) (λ a u. delivers_no_memory a before u)
+
+-- ---- what such a run leaves
+
+pub leaves_read_fault : (words : List (List ℕ)) (shelf shelf' : Outside) (out : Output) (result : Result Answer IoFault) → result ≡ Err io.Failed → FollowsWords words shelf shelf' result
+    → Leaves words shelf shelf' out out ReadFault
+leaves_read_fault words shelf shelf' out result e f = record {
+  answer = gives_read_fault words shelf.files out.told;
+  quiet = λ h. refl;
+  only = refl;
+  read_fault = λ h. f.shelf.cause.failed e;
+  write_fault = λ h. cc;
+  kept_reads = inr refl;
+  kept_writes = inl refl;
+  later_reads = f.shelf.cause.later;
+  later_writes = omega arith;
+  place_faults = f.shelf.place_faults;
+  files = f.shelf.files;
+  later = f.shelf.later;
+  calls = f.shelf.few;
+  names = f.shelf.names;
+}
+
+no_fault_counted : (before now : ℕ) (result : Result Answer IoFault) → result ≡ Err io.NoMemory → (now ≡ before) ⊎ (result ≡ Err io.Failed) → now ≡ before
+no_fault_counted before now result e (inl same) = same
+no_fault_counted before now result e (inr failed) = let no : Err io.NoMemory ≡ Err io.Failed = sym e ∙ failed in cc
+
+pub leaves_no_memory : (words : List (List ℕ)) (shelf shelf' : Outside) (out : Output) (result : Result Answer IoFault) → result ≡ Err io.NoMemory → FollowsWords words shelf shelf' result
+    → Leaves words shelf shelf' out out NoMemory
+leaves_no_memory words shelf shelf' out result e f = record {
+  answer = gives_no_memory words shelf.files out.told;
+  quiet = λ h. cc;
+  only = refl;
+  read_fault = λ h. cc;
+  write_fault = λ h. cc;
+  kept_reads = inl (no_fault_counted shelf.read_faults shelf'.read_faults result e f.shelf.cause.kept);
+  kept_writes = inl refl;
+  later_reads = f.shelf.cause.later;
+  later_writes = omega arith;
+  place_faults = f.shelf.place_faults;
+  files = f.shelf.files;
+  later = f.shelf.later;
+  calls = f.shelf.few;
+  names = f.shelf.names;
+}
