@@ -1,0 +1,8 @@
+//! The sweep of a net backwards in time: how much each earlier word, rounding and bound can still matter for a target.
+#![tactic(auto)]
+
+mod limits;
+mod target;
+
+pub use limits::{GREATEST_LENGTH, GREATEST_SHIFT, sweep_limits_are_these};
+pub use target::{Place, RangeAt, Target};
