@@ -1,5 +1,5 @@
 -- The exact values of a transfer function, brought to one scale.
-use Rattle.std.proofs.Common.{◌≡◌, ℕ, suc, ◌+◌, ◌-◌, ◌*◌, ◌^◌, ◌≤◌, Bool, true, false, not, cond, if◌then◌else◌, eqb, unsigned_abs, List, [], ◌∷◌, All, refl, arith, sym, ap, ap₂, ◌∙◌}
+use Rattle.std.proofs.Common.{◌≡◌, ℕ, suc, ◌+◌, ◌-◌, ◌*◌, ◌^◌, ◌≤◌, Bool, true, false, not, cond, if◌then◌else◌, eqb, unsigned_abs, List, [], ◌∷◌, refl, arith, sym, ap, ap₂, ◌∙◌}
 use Rattle.std.proofs.Math.IntN.{ℤ, pos, ◌+ℤ◌, ◌*ℤ◌}
 use Rattle.std.proofs.Math.Nat.{pow-succ', zero-div}
 use Rattle.std.proofs.lemmas.Int.{ints}
@@ -16,15 +16,9 @@ use Rattle.fx_eqs.specs.declared.term.Source.TheVariants.{In}
 use Rattle.fx_eqs.specs.declared.term.Term.{Term}
 use Rattle.fx_net.specs.Net.{plain}
 use Rattle.fx_net.proofs.Carried.{crossed}
-use Rattle.fx_sif.proofs.Kept.{is_zero-value}
-use Rattle.fx_direct.proofs.Ago.{ago, weigh, ago_scaled}
-use Rattle.fx_direct.proofs.Lifting.{weight}
-
--- a coefficient of value 0 has no weight
-pub no_weight : (q g : ℕ) (c : Fraction) → eqb (unsigned_abs c.num) 0 ≡ true → weight q g c ≡ pos 0
-no_weight q g c e =
-    let none : c.num ≡ pos 0 = is_zero-value c.num e in
-    rw none (omega (arith, ints))
+use Rattle.fx_sif.proofs.Earlier.{ago, weigh, ago_scaled}
+use Rattle.fx_sif.proofs.OneScale.{weight, no_weight}
+use Rattle.fx_sif.proofs.Denominators.{Suits}
 
 pub split_off : (o v w : ℤ) (q g r : ℕ) → pos (q * g) *ℤ ((o *ℤ v +ℤ w) *ℤ pos r) ≡ (o *ℤ pos q) *ℤ (pos g *ℤ (v *ℤ pos r)) +ℤ pos (q * g) *ℤ (w *ℤ pos r)
 split_off o v w q g r =
@@ -42,10 +36,6 @@ input_raised v g last k scale h =
 
 pub nothing_more : (x y : ℤ) → y ≡ pos 0 *ℤ x +ℤ y
 nothing_more x y = omega (arith, ints)
-
--- both denominators suit each coefficient that is not 0
-abbrev pub Suits : ℕ → List Fraction → Type 0
-Suits q cs = All (λ (c : Fraction). IsWholeOver q (plain c)) cs
 
 pub no_inputs : (d r : ℕ) → pos d *ℤ (pos 0 *ℤ pos r) ≡ pos 0
 no_inputs d r = ap pos (omega arith)

@@ -14,10 +14,11 @@ use Rattle.fx_nums.specs.Fraction.{Fraction, over, IsWholeOver}
 use Rattle.fx_net.specs.Net.{plain}
 use Rattle.fx_net.proofs.Carried.{crossed}
 use Rattle.std.proofs.lemmas.List.Elements.{All-head, All-tail}
-use Rattle.fx_direct.proofs.Lifting.{weight}
-use Rattle.fx_direct.proofs.Exact.{Suits, no_weight, split_off, nothing_more, no_inputs}
+use Rattle.fx_sif.proofs.OneScale.{weight, no_weight}
+use Rattle.fx_direct.proofs.Exact.{split_off, nothing_more, no_inputs}
 use Rattle.fx_eqs.specs.ExactRun.{exact_value, past_values, terms_sum, with_now}
-use Rattle.fx_direct.proofs.Ago.{ago, weigh}
+use Rattle.fx_sif.proofs.Earlier.{ago, weigh}
+use Rattle.fx_sif.proofs.Denominators.{Suits}
 
 past_is : (s : Equations) (q : ℕ) (u : ℕ → ℕ → ℤ) (k l j : ℕ) → past_values s q u (suc k) l j ≡ lagged (exact_value s q u) k l j
 past_is s q u k zero j = refl

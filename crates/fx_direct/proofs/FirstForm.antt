@@ -6,25 +6,25 @@ use Rattle.std.proofs.lemmas.List.Elements.{All-head, All-tail}
 use Rattle.fx_nums.specs.Fraction.{Fraction, one_fraction, minus}
 use Rattle.fx_eqs.specs.Textbook.{tf_equations}
 use Rattle.fx_net.specs.Run.{IsDenominator}
-use Rattle.fx_sif.specs.Fits.{FormFits}
+use Rattle.fx_eqs.specs.declared.limits.TheConstants.{COEFFICIENTS}
+use Rattle.fx_sif.specs.Fits.{ImplicitFits}
 use Rattle.fx_sif.specs.SameOutputs.{net_alone, HasOutputs}
 use Rattle.fx_sif.specs.declared.parts.Block.TheVariants.{K, L, M, N, Q}
 use Rattle.fx_sif.specs.declared.parts.Entry.{Entry}
 use Rattle.fx_sif.specs.declared.parts.Sizes.{Sizes}
-use Rattle.fx_direct.specs.Entries.{coefficient, entry, across, delay_row, delays}
+use Rattle.fx_sif.specs.Entries.{coefficient, entry, across, delay_row, delays}
 use Rattle.fx_direct.specs.Forms.{order, single, df1_entries, df1_form}
-use Rattle.fx_direct.proofs.Ago.{ago, weigh}
-use Rattle.fx_direct.proofs.Delayed.{alone, delay_in, delayed, over_states}
-use Rattle.fx_direct.proofs.Exact.{Suits}
-use Rattle.fx_direct.proofs.Lifting.{weight, RowsMeet, cancelled}
-use Rattle.fx_direct.proofs.Outputs.{fed_back, MeetsAt, meets_too, first_lag, has_outputs}
-use Rattle.fx_direct.proofs.Parts.{adds, all_add, adds_both, adds_first, adds_second, adds_here, adds_none, adds_its_row, adds_no_row}
-use Rattle.fx_direct.proofs.Rising.{fits_from, df1_rises}
-use Rattle.fx_direct.proofs.Selecting.{InRow, across_in}
-use Rattle.fx_direct.proofs.Suiting.{IsSuited, all_of_both, entries_suited, across_suits}
-use Rattle.fx_direct.proofs.WithoutFeedback.{numerator_suits}
+use Rattle.fx_sif.proofs.Earlier.{ago, weigh}
+use Rattle.fx_sif.proofs.Delays.{alone, delay_in, delayed, over_states}
+use Rattle.fx_sif.proofs.OneScale.{weight, RowsMeet, cancelled}
+use Rattle.fx_direct.proofs.Outputs.{has_outputs}
+use Rattle.fx_sif.proofs.RowSums.{adds, all_add, adds_both, adds_first, adds_second, adds_here, adds_none, adds_its_row, adds_no_row}
+use Rattle.fx_direct.proofs.NeverRefused.{single_fits, df1_ascends}
+use Rattle.fx_sif.proofs.EntriesOfRow.{InRow, across_in}
+use Rattle.fx_sif.proofs.Denominators.{IsSuited, all_of_both, entries_suited, across_suits, Suits, first_suits}
+use Rattle.fx_sif.proofs.Recursion.{fed_back, MeetsAt, meets_too, first_lag}
 
-module _ (b a : List Fraction) (low : 1 ≤ length b) (fits : FormFits (df1_form b a)) where
+module _ (b a : List Fraction) (low : 1 ≤ length b) (fits : ImplicitFits (df1_form b a)) where
   abbrev nb : ℕ
   nb = order b
 
@@ -41,10 +41,10 @@ module _ (b a : List Fraction) (low : 1 ≤ length b) (fits : FormFits (df1_form
   back = across M 0 nb (fed_back a)
 
   abbrev inputs_before : List Entry
-  inputs_before = delays Q 0 nb
+  inputs_before = delays Q 0 0 nb
 
   abbrev outputs_before : List Entry
-  outputs_before = delays K nb na
+  outputs_before = delays K 0 nb na
 
   abbrev output : List Entry
   output = entry L 0 0 one_fraction ∷ []
@@ -55,11 +55,11 @@ module _ (b a : List Fraction) (low : 1 ≤ length b) (fits : FormFits (df1_form
   in_back : InRow s 0 back
   in_back = across_in s 0 M 0 (fed_back a) nb (λ j. refl) refl
 
-  each_input : (i : ℕ) → i < nb → InRow s (1 + 0 + i) (delay_row Q 0 i)
-  each_input i h = delay_in s Q 0 i (λ i. refl) (λ i j. refl)
+  each_input : (i : ℕ) → i < nb → InRow s (1 + 0 + i) (delay_row Q 0 0 i)
+  each_input i h = delay_in s Q 0 0 i (λ i. refl) (λ i j. refl)
 
-  each_output : (i : ℕ) → i < na → InRow s (1 + nb + i) (delay_row K nb i)
-  each_output i h = delay_in s K nb i (λ i. refl) (λ i j. refl)
+  each_output : (i : ℕ) → i < na → InRow s (1 + nb + i) (delay_row K 0 nb i)
+  each_output i h = delay_in s K 0 nb i (λ i. refl) (λ i j. refl)
 
   in_output : InRow s (1 + (nb + na) + 0) output
   in_output = (refl, refl, tt)
@@ -77,7 +77,7 @@ module _ (b a : List Fraction) (low : 1 ≤ length b) (fits : FormFits (df1_form
       let part = (suited q denominator).0 in
       let first = entry N 0 0 (coefficient b 0) in
       let tail = across M 0 0 (drop 1 b) in
-      numerator_suits q b low (All-head (IsSuited q) first tail part refl) (across_suits q M 0 (drop 1 b) 0 (λ j. refl) (λ c. refl) (All-tail (IsSuited q) first tail part))
+      first_suits q b low (All-head (IsSuited q) first tail part refl) (across_suits q M 0 (drop 1 b) 0 (λ j. refl) (λ c. refl) (All-tail (IsSuited q) first tail part))
 
   denominator : (q : ℕ) → IsDenominator (net_alone (df1_form b a)) q → Suits q (fed_back a)
   denominator q d = across_suits q M 0 (fed_back a) nb (λ j. refl) (λ c. refl) (suited q d).1
@@ -94,10 +94,10 @@ module _ (b a : List Fraction) (low : 1 ≤ length b) (fits : FormFits (df1_form
 
     -- the entries of states stand in no other row
     no_inputs : (k r : ℕ) → (r < 1) ⊎ (1 + nb ≤ r) → adds s w x u k r inputs_before ≡ pos 0
-    no_inputs k r apart = adds_no_row s w x u k (1 + 0) nb r (delay_row Q 0) each_input (λ i l same. elim apart [ inl h ↦ omega (arith, h, l, same) | inr h ↦ omega (arith, h, l, same) ])
+    no_inputs k r apart = adds_no_row s w x u k (1 + 0) nb r (delay_row Q 0 0) each_input (λ i l same. elim apart [ inl h ↦ omega (arith, h, l, same) | inr h ↦ omega (arith, h, l, same) ])
 
     no_outputs : (k r : ℕ) → (r < 1 + nb) ⊎ (1 + (nb + na) ≤ r) → adds s w x u k r outputs_before ≡ pos 0
-    no_outputs k r apart = adds_no_row s w x u k (1 + nb) na r (delay_row K nb) each_output (λ i l same. elim apart [ inl h ↦ omega (arith, h, l, same) | inr h ↦ omega (arith, h, l, same) ])
+    no_outputs k r apart = adds_no_row s w x u k (1 + nb) na r (delay_row K 0 nb) each_output (λ i l same. elim apart [ inl h ↦ omega (arith, h, l, same) | inr h ↦ omega (arith, h, l, same) ])
 
     no_output : (k r : ℕ) → r < 1 + (nb + na) → adds s w x u k r output ≡ pos 0
     no_output k r h = adds_none s w x u k (1 + (nb + na) + 0) r output (λ same. omega (arith, h, same)) in_output
@@ -108,21 +108,21 @@ module _ (b a : List Fraction) (low : 1 ≤ length b) (fits : FormFits (df1_form
         ∙ adds_none s w x u k 0 r feed (λ same. omega (arith, h, same)) in_feed
 
     -- what stands in each row
-    input_row : (i k : ℕ) → i < nb → adds s w x u k (1 + (0 + i)) (df1_entries b a) ≡ all_add s w x u k (delay_row Q 0 i)
+    input_row : (i k : ℕ) → i < nb → adds s w x u k (1 + (0 + i)) (df1_entries b a) ≡ all_add s w x u k (delay_row Q 0 0 i)
     input_row i k h =
         let r : ℕ = 1 + (0 + i) in
         adds_first s w x u k r (feed ++ back ++ inputs_before ++ outputs_before) output (no_output k r (omega arith))
         ∙ adds_first s w x u k r (feed ++ back ++ inputs_before) outputs_before (no_outputs k r (inl (omega arith)))
         ∙ adds_second s w x u k r (feed ++ back) inputs_before (no_variable k r (omega arith))
-        ∙ adds_its_row s w x u k (1 + 0) nb (delay_row Q 0) each_input i r h (omega arith)
+        ∙ adds_its_row s w x u k (1 + 0) nb (delay_row Q 0 0) each_input i r h (omega arith)
 
-    output_row : (i k : ℕ) → i < na → adds s w x u k (1 + (nb + i)) (df1_entries b a) ≡ all_add s w x u k (delay_row K nb i)
+    output_row : (i k : ℕ) → i < na → adds s w x u k (1 + (nb + i)) (df1_entries b a) ≡ all_add s w x u k (delay_row K 0 nb i)
     output_row i k h =
         let r : ℕ = 1 + (nb + i) in
         adds_first s w x u k r (feed ++ back ++ inputs_before ++ outputs_before) output (no_output k r (omega arith))
         ∙ adds_second s w x u k r (feed ++ back ++ inputs_before) outputs_before
         (adds_first s w x u k r (feed ++ back) inputs_before (no_inputs k r (inr (omega arith))) ∙ no_variable k r (omega arith))
-        ∙ adds_its_row s w x u k (1 + nb) na (delay_row K nb) each_output i r h (omega arith)
+        ∙ adds_its_row s w x u k (1 + nb) na (delay_row K 0 nb) each_output i r h (omega arith)
 
     variable_row : (k : ℕ) → adds s w x u k 0 (df1_entries b a) ≡ all_add s w x u k feed +ℤ all_add s w x u k back
     variable_row k =
@@ -142,10 +142,10 @@ module _ (b a : List Fraction) (low : 1 ≤ length b) (fits : FormFits (df1_form
         ∙ adds_here s w x u k (1 + (nb + na) + 0) output in_output
 
     held_inputs : (i k : ℕ) → k ≤ last → i < nb → x k (1 + (0 + i)) ≡ ago v k i
-    held_inputs = delayed (df1_form b a) q g last x u positive meet Q v 0 nb input_row (λ k h. refl) refl (omega arith)
+    held_inputs = delayed (df1_form b a) q g last x u positive meet Q 0 v 0 nb input_row (λ k h. refl) refl (omega arith)
 
     held_outputs : (i k : ℕ) → k ≤ last → i < na → x k (1 + (nb + i)) ≡ ago t k i
-    held_outputs = delayed (df1_form b a) q g last x u positive meet K t nb na output_row (λ k h. refl) refl (omega arith)
+    held_outputs = delayed (df1_form b a) q g last x u positive meet K 0 t nb na output_row (λ k h. refl) refl (omega arith)
 
     variable_meets : (k : ℕ) → k ≤ last → MeetsAt w (q * g) b a v t k
     variable_meets k h =
@@ -170,5 +170,5 @@ module _ (b a : List Fraction) (low : 1 ≤ length b) (fits : FormFits (df1_form
   pub df1_outputs : HasOutputs (df1_form b a) (tf_equations b a)
   df1_outputs = has_outputs (df1_form b a) b a fits (record { inputs = refl; outputs = refl; numerator = numerator; denominator = denominator; meets = meets })
 
-pub df1_has_outputs : (b a : List Fraction) → 1 ≤ length b → length b ≤ 13 → length a ≤ 13 → HasOutputs (df1_form b a) (tf_equations b a)
-df1_has_outputs b a low high high_back = df1_outputs b a low (fits_from 1 (order b + order a) (df1_entries b a) (df1_rises b a high high_back) (omega arith) (omega arith))
+pub df1_has_outputs : (b a : List Fraction) → 1 ≤ length b → length b ≤ COEFFICIENTS → length a ≤ COEFFICIENTS → HasOutputs (df1_form b a) (tf_equations b a)
+df1_has_outputs b a low high high_back = df1_outputs b a low (single_fits 1 (order b + order a) (df1_entries b a) (df1_ascends b a high high_back) (omega arith))

@@ -1,11 +1,11 @@
 -- A form whose output meets the recursion of a transfer function puts out what the equations put out.
-use Rattle.std.proofs.Common.{◌≡◌, ℕ, zero, suc, ◌+◌, ◌-◌, ◌*◌, ◌^◌, ◌<◌, ◌≤◌, List, [], ◌∷◌, map, drop, length, refl, arith, sym, ap, subst, ◌∙◌}
-use Rattle.std.proofs.Math.IntN.{ℤ, pos, ◌+ℤ◌, ◌*ℤ◌}
+use Rattle.std.proofs.Common.{◌≡◌, ℕ, zero, suc, ◌+◌, ◌-◌, ◌*◌, ◌^◌, ◌<◌, ◌≤◌, List, arith, sym, ap, subst, ◌∙◌}
+use Rattle.std.proofs.Math.IntN.{ℤ, pos, ◌*ℤ◌}
 use Rattle.std.proofs.Math.Nat.{pow-succ', pow-zero, le-mul_of_pos_right}
 use Rattle.std.proofs.lemmas.Int.{ints}
 use Rattle.std.proofs.lemmas.List.Elements.{filter-append}
 use Rattle.fx_eqs.specs.Denominator.{DividesEach}
-use Rattle.fx_nums.specs.Fraction.{Fraction, IsWholeOver, minus}
+use Rattle.fx_nums.specs.Fraction.{Fraction, IsWholeOver}
 use Rattle.fx_eqs.specs.Equations.{is_kept, kept}
 use Rattle.fx_eqs.specs.ExactRun.{exact_value, terms_sum, with_now, past_values}
 use Rattle.fx_math.specs.Unroll.{fill}
@@ -14,47 +14,29 @@ use Rattle.fx_eqs.specs.declared.term.Source.TheVariants.{Row, In}
 use Rattle.fx_eqs.specs.declared.term.Term.{Term}
 use Rattle.fx_net.specs.Rows.{put_rows}
 use Rattle.fx_net.specs.Run.{IsDenominator, IsRun}
-use Rattle.fx_sif.specs.Fits.{FormFits}
-use Rattle.fx_sif.specs.Form.{Form, rows}
+use Rattle.fx_sif.specs.Fits.{ImplicitFits}
+use Rattle.fx_sif.specs.Implicit.{Implicit, rows}
 use Rattle.fx_sif.specs.SameOutputs.{net_alone, HasOutputs, IsSameOutput}
-use Rattle.fx_direct.specs.Entries.{coefficient}
-use Rattle.fx_direct.proofs.Ago.{weigh}
-use Rattle.fx_direct.proofs.Exact.{Suits, nothing_over}
+use Rattle.fx_sif.proofs.Earlier.{weigh}
+use Rattle.fx_direct.proofs.Exact.{nothing_over}
 use Rattle.fx_direct.proofs.Feedback.{at_last}
-use Rattle.fx_direct.proofs.Lifting.{weight, raise, lifted, lifted_input, RowsMeet, rows_meet}
-use Rattle.fx_direct.proofs.Suiting.{all_of_both}
+use Rattle.fx_sif.proofs.OneScale.{weight, raise, lifted, lifted_input, RowsMeet, rows_meet}
+use Rattle.fx_sif.proofs.Denominators.{all_of_both, Suits}
 use Rattle.fx_direct.proofs.Transfer.{transfer_meets}
-use Rattle.fx_direct.proofs.Unique.{same_sequence, weigh_before}
-
--- the denominator's coefficients behind the first, with the other sign
-abbrev pub fed_back : List Fraction → List Fraction
-fed_back a = map minus (drop 1 a)
+use Rattle.fx_sif.proofs.Uniqueness.{same_sequence}
+use Rattle.fx_sif.proofs.Recursion.{fed_back, MeetsAt}
 
 -- the one output's row
-abbrev pub top : Form → ℕ
+abbrev pub top : Implicit → ℕ
 top f = f.sizes.t + f.sizes.x + 0
 
--- y is b over the inputs of this moment and of those before, and the feedback over its own earlier values
-abbrev pub MeetsAt : (Fraction → ℤ) → ℕ → List Fraction → List Fraction → (ℕ → ℤ) → (ℕ → ℤ) → ℕ → Type 0
-MeetsAt w d b a u y k = pos d *ℤ y k ≡ weigh w u k 0 b +ℤ weigh w y k 1 (fed_back a)
-
 -- what a form owes: one input, one output that meets the recursion, and a denominator of its net suits the coefficients
-pub record MeetsTransfer (f : Form) (b a : List Fraction) : Type 0 where
+pub record MeetsTransfer (f : Implicit) (b a : List Fraction) : Type 0 where
   pub inputs : f.sizes.u ≡ 1
   pub outputs : f.sizes.y ≡ 1
   pub numerator : (q : ℕ) → IsDenominator (net_alone f) q → Suits q b
   pub denominator : (q : ℕ) → IsDenominator (net_alone f) q → Suits q (fed_back a)
   pub meets : (q g last : ℕ) (x u : ℕ → ℕ → ℤ) → 0 < q * g → RowsMeet f q g last x u → (k : ℕ) → k ≤ last → MeetsAt (weight q g) (q * g) b a (λ k. u k 0) (λ k. x k (top f)) k
-
--- what is equal to a sequence that meets it meets it
-pub meets_too : (w : Fraction → ℤ) (d : ℕ) (b a : List Fraction) (u t y : ℕ → ℤ) (k : ℕ) → ((j : ℕ) → j ≤ k → y j ≡ t j) → MeetsAt w d b a u t k → MeetsAt w d b a u y k
-meets_too w d b a u t y k same h =
-    ap (λ v. pos d *ℤ v) (same k (omega arith)) ∙ h ∙ ap (λ v. weigh w u k 0 b +ℤ v) (sym (weigh_before w y t k (fed_back a) 1 (omega arith) (λ j l. same j (omega arith))))
-
--- the first coefficient, and those behind it
-pub first_lag : (w : Fraction → ℤ) (v : ℕ → ℤ) (k : ℕ) (b : List Fraction) → 1 ≤ length b → w (coefficient b 0) *ℤ v k +ℤ weigh w v k 1 (drop 1 b) ≡ weigh w v k 0 b
-first_lag w v k [] h = absurd (omega arith)
-first_lag w v k (c ∷ cs) h = refl
 
 -- ---- the scales
 
@@ -74,7 +56,7 @@ last_time k n r e = omega arith
 
 -- ---- the law
 
-module _ (f : Form) (b a : List Fraction) (fits : FormFits f) (owed : MeetsTransfer f b a) where
+module _ (f : Implicit) (b a : List Fraction) (fits : ImplicitFits f) (owed : MeetsTransfer f b a) where
   abbrev lags_in : List Term
   lags_in = over_lags 0 (In 0) 0 b
 

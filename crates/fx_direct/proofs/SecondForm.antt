@@ -8,25 +8,25 @@ use Rattle.fx_math.proofs.Ring.{mul-add}
 use Rattle.fx_nums.specs.Fraction.{Fraction, one_fraction, minus}
 use Rattle.fx_eqs.specs.Textbook.{tf_equations}
 use Rattle.fx_net.specs.Run.{IsDenominator}
-use Rattle.fx_sif.specs.Fits.{FormFits}
-use Rattle.fx_sif.specs.Form.{Form}
+use Rattle.fx_eqs.specs.declared.limits.TheConstants.{COEFFICIENTS}
+use Rattle.fx_sif.specs.Fits.{ImplicitFits}
+use Rattle.fx_sif.specs.Implicit.{Implicit}
 use Rattle.fx_sif.specs.SameOutputs.{net_alone, HasOutputs}
 use Rattle.fx_sif.specs.declared.parts.Block.TheVariants.{K, L, M, N, R}
 use Rattle.fx_sif.specs.declared.parts.Entry.{Entry}
 use Rattle.fx_sif.specs.declared.parts.Sizes.{Sizes}
-use Rattle.fx_direct.specs.Entries.{coefficient, entry, across, delay_row, delays}
+use Rattle.fx_sif.specs.Entries.{coefficient, entry, across, delay_row, delays}
 use Rattle.fx_direct.specs.Forms.{order, single, df2_form}
-use Rattle.fx_direct.proofs.Ago.{ago, weigh}
-use Rattle.fx_direct.proofs.Delayed.{one_weighs, delay_in, delayed, over_states}
-use Rattle.fx_direct.proofs.Exact.{Suits}
-use Rattle.fx_direct.proofs.Lifting.{weight, RowsMeet, cancelled}
-use Rattle.fx_direct.proofs.Outputs.{fed_back, MeetsAt, first_lag, has_outputs}
-use Rattle.fx_direct.proofs.Parts.{adds, all_add, adds_first, adds_second, adds_here, adds_none, adds_its_row, adds_no_row}
-use Rattle.fx_direct.proofs.Rising.{Greater, greater_order, fits_from, df2_rises}
-use Rattle.fx_direct.proofs.Selecting.{InRow, across_in}
-use Rattle.fx_direct.proofs.Suiting.{IsSuited, all_of_both, entries_suited, across_suits}
-use Rattle.fx_direct.proofs.Weighing.{weigh_same, weigh_scaled, weigh_sum, weigh_exchanged}
-use Rattle.fx_direct.proofs.WithoutFeedback.{numerator_suits}
+use Rattle.fx_sif.proofs.Earlier.{ago, weigh}
+use Rattle.fx_sif.proofs.Delays.{one_weighs, delay_in, delayed, over_states}
+use Rattle.fx_sif.proofs.OneScale.{weight, RowsMeet, cancelled}
+use Rattle.fx_direct.proofs.Outputs.{has_outputs}
+use Rattle.fx_sif.proofs.RowSums.{adds, all_add, adds_first, adds_second, adds_here, adds_none, adds_its_row, adds_no_row}
+use Rattle.fx_direct.proofs.NeverRefused.{Greater, greater_order, single_fits, df2_ascends}
+use Rattle.fx_sif.proofs.EntriesOfRow.{InRow, across_in}
+use Rattle.fx_sif.proofs.Denominators.{IsSuited, all_of_both, entries_suited, across_suits, Suits, first_suits}
+use Rattle.fx_sif.proofs.EarlierSums.{weigh_same, weigh_scaled, weigh_sum, weigh_exchanged}
+use Rattle.fx_sif.proofs.Recursion.{fed_back, MeetsAt, first_lag}
 
 -- ---- in either order
 
@@ -51,13 +51,13 @@ numerator_last w d b a u t y k positive of_t of_y =
 -- ---- the rows
 
 -- n states, at least as many as either list wants
-abbrev form_with : List Fraction → List Fraction → ℕ → Form
+abbrev form_with : List Fraction → List Fraction → ℕ → Implicit
 form_with b a n = record {
   sizes = single 1 n;
-  entries = (entry N 0 0 one_fraction ∷ across M 0 0 (fed_back a)) ++ delays K 0 n ++ (entry L 0 0 (coefficient b 0) ∷ across R 0 0 (drop 1 b));
+  entries = (entry N 0 0 one_fraction ∷ across M 0 0 (fed_back a)) ++ delays K 0 0 n ++ (entry L 0 0 (coefficient b 0) ∷ across R 0 0 (drop 1 b));
 }
 
-module _ (b a : List Fraction) (n : ℕ) (low : 1 ≤ length b) (wide : Greater n (order b) (order a)) (fits : FormFits (form_with b a n)) where
+module _ (b a : List Fraction) (n : ℕ) (low : 1 ≤ length b) (wide : Greater n (order b) (order a)) (fits : ImplicitFits (form_with b a n)) where
   abbrev s : Sizes
   s = single 1 n
 
@@ -65,7 +65,7 @@ module _ (b a : List Fraction) (n : ℕ) (low : 1 ≤ length b) (wide : Greater 
   variable = entry N 0 0 one_fraction ∷ across M 0 0 (fed_back a)
 
   abbrev states : List Entry
-  states = delays K 0 n
+  states = delays K 0 0 n
 
   abbrev output : List Entry
   output = entry L 0 0 (coefficient b 0) ∷ across R 0 0 (drop 1 b)
@@ -73,8 +73,8 @@ module _ (b a : List Fraction) (n : ℕ) (low : 1 ≤ length b) (wide : Greater 
   in_variable : InRow s 0 variable
   in_variable = (refl, refl, across_in s 0 M 0 (fed_back a) 0 (λ j. refl) refl)
 
-  each_state : (i : ℕ) → i < n → InRow s (1 + 0 + i) (delay_row K 0 i)
-  each_state i h = delay_in s K 0 i (λ i. refl) (λ i j. refl)
+  each_state : (i : ℕ) → i < n → InRow s (1 + 0 + i) (delay_row K 0 0 i)
+  each_state i h = delay_in s K 0 0 i (λ i. refl) (λ i j. refl)
 
   in_output : InRow s (1 + n + 0) output
   in_output = (refl, refl, across_in s (1 + n + 0) R 0 (drop 1 b) 0 (λ j. refl) refl)
@@ -84,7 +84,7 @@ module _ (b a : List Fraction) (n : ℕ) (low : 1 ≤ length b) (wide : Greater 
       let part = (all_of_both (IsSuited q) (variable ++ states) output (entries_suited (form_with b a n) fits q d)).1 in
       let first = entry L 0 0 (coefficient b 0) in
       let tail = across R 0 0 (drop 1 b) in
-      numerator_suits q b low (All-head (IsSuited q) first tail part refl) (across_suits q R 0 (drop 1 b) 0 (λ j. refl) (λ c. refl) (All-tail (IsSuited q) first tail part))
+      first_suits q b low (All-head (IsSuited q) first tail part refl) (across_suits q R 0 (drop 1 b) 0 (λ j. refl) (λ c. refl) (All-tail (IsSuited q) first tail part))
 
   denominator : (q : ℕ) → IsDenominator (net_alone (form_with b a n)) q → Suits q (fed_back a)
   denominator q d =
@@ -100,7 +100,7 @@ module _ (b a : List Fraction) (n : ℕ) (low : 1 ≤ length b) (wide : Greater 
     t k = x k 0
 
     no_states : (k r : ℕ) → (r < 1) ⊎ (1 + n ≤ r) → adds s w x u k r states ≡ pos 0
-    no_states k r apart = adds_no_row s w x u k (1 + 0) n r (delay_row K 0) each_state (λ i l same. elim apart [ inl h ↦ omega (arith, h, l, same) | inr h ↦ omega (arith, h, l, same) ])
+    no_states k r apart = adds_no_row s w x u k (1 + 0) n r (delay_row K 0 0) each_state (λ i l same. elim apart [ inl h ↦ omega (arith, h, l, same) | inr h ↦ omega (arith, h, l, same) ])
 
     no_output : (k r : ℕ) → r < 1 + n → adds s w x u k r output ≡ pos 0
     no_output k r h = adds_none s w x u k (1 + n + 0) r output (λ same. omega (arith, h, same)) in_output
@@ -108,15 +108,15 @@ module _ (b a : List Fraction) (n : ℕ) (low : 1 ≤ length b) (wide : Greater 
     no_variable : (k r : ℕ) → 0 < r → adds s w x u k r variable ≡ pos 0
     no_variable k r h = adds_none s w x u k 0 r variable (λ same. omega (arith, h, same)) in_variable
 
-    state_row : (i k : ℕ) → i < n → adds s w x u k (1 + (0 + i)) (form_with b a n).entries ≡ all_add s w x u k (delay_row K 0 i)
+    state_row : (i k : ℕ) → i < n → adds s w x u k (1 + (0 + i)) (form_with b a n).entries ≡ all_add s w x u k (delay_row K 0 0 i)
     state_row i k h =
         let r : ℕ = 1 + (0 + i) in
         adds_first s w x u k r (variable ++ states) output (no_output k r (omega arith))
         ∙ adds_second s w x u k r variable states (no_variable k r (omega arith))
-        ∙ adds_its_row s w x u k (1 + 0) n (delay_row K 0) each_state i r h (omega arith)
+        ∙ adds_its_row s w x u k (1 + 0) n (delay_row K 0 0) each_state i r h (omega arith)
 
     held : (i k : ℕ) → k ≤ last → i < n → x k (1 + (0 + i)) ≡ ago t k i
-    held = delayed (form_with b a n) q g last x u positive meet K t 0 n state_row (λ k h. refl) refl (omega arith)
+    held = delayed (form_with b a n) q g last x u positive meet K 0 t 0 n state_row (λ k h. refl) refl (omega arith)
 
     of_variable : (k : ℕ) → k ≤ last → pos (q * g) *ℤ t k ≡ pos (q * g) *ℤ u k 0 +ℤ weigh w t k 1 (fed_back a)
     of_variable k h =
@@ -146,9 +146,9 @@ module _ (b a : List Fraction) (n : ℕ) (low : 1 ≤ length b) (wide : Greater 
   pub df2_outputs : HasOutputs (form_with b a n) (tf_equations b a)
   df2_outputs = has_outputs (form_with b a n) b a fits (record { inputs = refl; outputs = refl; numerator = numerator; denominator = denominator; meets = meets })
 
-pub df2_has_outputs : (b a : List Fraction) → 1 ≤ length b → length b ≤ 13 → length a ≤ 13 → HasOutputs (df2_form b a) (tf_equations b a)
+pub df2_has_outputs : (b a : List Fraction) → 1 ≤ length b → length b ≤ COEFFICIENTS → length a ≤ COEFFICIENTS → HasOutputs (df2_form b a) (tf_equations b a)
 df2_has_outputs b a low high high_back =
     let n : ℕ = max (order b) (order a) in
     let wide = greater_order b a high high_back in
     let few : n ≤ 12 = wide.high in
-    df2_outputs b a n low wide (fits_from 1 n (form_with b a n).entries (df2_rises b a n wide) (omega arith) (omega arith))
+    df2_outputs b a n low wide (single_fits 1 n (form_with b a n).entries (df2_ascends b a n wide) (omega arith))

@@ -12,10 +12,11 @@ use Rattle.fx_eqs.specs.ExactRun.{exact_value, past_values, terms_sum, value_rea
 use Rattle.fx_eqs.specs.Textbook.{over_lags, tf_equations}
 use Rattle.fx_eqs.specs.declared.term.Source.TheVariants.{Row, In}
 use Rattle.fx_eqs.specs.declared.term.Term.{Term}
-use Rattle.fx_direct.proofs.Ago.{weigh}
-use Rattle.fx_direct.proofs.Exact.{Suits, inputs_weigh}
+use Rattle.fx_sif.proofs.Earlier.{weigh}
+use Rattle.fx_direct.proofs.Exact.{inputs_weigh}
 use Rattle.fx_direct.proofs.Feedback.{at_last, rows_weigh}
-use Rattle.fx_direct.proofs.Lifting.{weight}
+use Rattle.fx_sif.proofs.OneScale.{weight}
+use Rattle.fx_sif.proofs.Denominators.{Suits}
 
 grouped : (a b c : ℤ) → a +ℤ (b +ℤ c) ≡ (a +ℤ b) +ℤ c
 grouped a b c = omega (arith, ints)

@@ -5,41 +5,32 @@ use Rattle.std.proofs.Math.IntN.{ℤ, pos, ◌+ℤ◌, ◌*ℤ◌}
 use Rattle.std.proofs.lemmas.Bool.{ltb-true, ltb-false}
 use Rattle.std.proofs.lemmas.Int.{ints}
 use Rattle.std.proofs.lemmas.List.{length-map}
-use Rattle.std.proofs.lemmas.List.Elements.{All-head, All-tail, All-nil, All-cons}
+use Rattle.std.proofs.lemmas.List.Elements.{All-head, All-tail}
 use Rattle.fx_math.specs.Unroll.{before}
-use Rattle.fx_nums.specs.Fraction.{Fraction, IsWholeOver, one_fraction, minus}
-use Rattle.fx_mat.specs.Entries.{zero_fraction}
+use Rattle.fx_nums.specs.Fraction.{Fraction, IsWholeOver, one_fraction, minus, zero_fraction}
 use Rattle.fx_eqs.specs.Textbook.{tf_equations}
 use Rattle.fx_net.specs.Net.{plain}
 use Rattle.fx_net.specs.Run.{IsDenominator}
-use Rattle.fx_sif.specs.Fits.{FormFits}
-use Rattle.fx_sif.specs.Form.{Form}
+use Rattle.fx_eqs.specs.declared.limits.TheConstants.{COEFFICIENTS}
+use Rattle.fx_sif.specs.Fits.{ImplicitFits}
+use Rattle.fx_sif.specs.Implicit.{Implicit}
 use Rattle.fx_sif.specs.SameOutputs.{net_alone, HasOutputs}
 use Rattle.fx_sif.specs.declared.parts.Block.TheVariants.{K, L, M, N, P, Q}
 use Rattle.fx_sif.specs.declared.parts.Entry.{Entry}
 use Rattle.fx_sif.specs.declared.parts.Sizes.{Sizes}
-use Rattle.fx_direct.specs.Entries.{coefficient, entry, by_row}
+use Rattle.fx_sif.specs.Entries.{coefficient, entry}
 use Rattle.fx_direct.specs.Forms.{order, single, df2t_row, first_state, df2t_form}
-use Rattle.fx_direct.proofs.Ago.{weigh}
-use Rattle.fx_direct.proofs.Delayed.{one_weighs, alone}
-use Rattle.fx_direct.proofs.Exact.{Suits, no_weight}
-use Rattle.fx_direct.proofs.Lifting.{weight, RowsMeet, cancelled}
-use Rattle.fx_direct.proofs.Outputs.{fed_back, MeetsAt, meets_too, first_lag, has_outputs}
-use Rattle.fx_direct.proofs.Parts.{adds, all_add, adds_first, adds_second, adds_here, adds_none, adds_its_row, adds_no_row}
-use Rattle.fx_direct.proofs.Rising.{Greater, greater_order, fits_from, df2t_rises}
-use Rattle.fx_direct.proofs.Selecting.{InRow}
-use Rattle.fx_direct.proofs.Suiting.{IsSuited, all_of_both, all_of_rows, entries_suited}
-use Rattle.fx_direct.proofs.Weighing.{weigh_later, weigh_start, coefficient_next, coefficient_opposite, weigh_from, weigh_past}
-use Rattle.fx_direct.proofs.WithoutFeedback.{numerator_suits}
-
--- ---- lists by their places
-
-suits_by_place : (q : ℕ) (cs : List Fraction) → ((i : ℕ) → i < length cs → IsWholeOver q (plain (coefficient cs i))) → Suits q cs
-suits_by_place q [] h = All-nil (λ (c : Fraction). IsWholeOver q (plain c))
-suits_by_place q (c ∷ cs) h = All-cons (λ (c : Fraction). IsWholeOver q (plain c)) c cs (h 0 (omega arith)) (suits_by_place q cs (λ i l. h (suc i) (omega arith)))
-
-fed_at : (a : List Fraction) (i : ℕ) → coefficient (fed_back a) i ≡ minus (coefficient a (i + 1))
-fed_at a i = coefficient_opposite (drop 1 a) i ∙ ap minus (coefficient_next a i)
+use Rattle.fx_sif.proofs.Earlier.{weigh}
+use Rattle.fx_sif.proofs.Delays.{one_weighs, alone}
+use Rattle.fx_sif.proofs.OneScale.{weight, RowsMeet, cancelled, no_weight}
+use Rattle.fx_direct.proofs.Outputs.{has_outputs}
+use Rattle.fx_sif.proofs.RowSums.{adds, all_add, adds_first, adds_second, adds_here, adds_none, adds_its_row, adds_no_row}
+use Rattle.fx_direct.proofs.NeverRefused.{Greater, greater_order, single_fits, df2t_ascends}
+use Rattle.fx_sif.proofs.EntriesOfRow.{InRow}
+use Rattle.fx_sif.proofs.Denominators.{IsSuited, all_of_both, all_of_rows, entries_suited, Suits, first_suits, suits_by_place}
+use Rattle.fx_sif.proofs.EarlierSums.{weigh_later, weigh_start, coefficient_next, weigh_from, weigh_past}
+use Rattle.fx_math.specs.Sums.{joined}
+use Rattle.fx_sif.proofs.Recursion.{fed_back, MeetsAt, meets_too, first_lag, fed_at}
 
 -- ---- sums of a state
 
@@ -59,13 +50,13 @@ only_sum c u up down all e f h = rw (sym h) (omega (arith, ints, e, f))
 -- ---- the rows
 
 -- n states, at least as many as either list wants
-abbrev form_with : List Fraction → List Fraction → ℕ → Form
+abbrev form_with : List Fraction → List Fraction → ℕ → Implicit
 form_with b a n = record {
   sizes = single 1 n;
-  entries = (entry N 0 0 (coefficient b 0) ∷ first_state n) ++ by_row n (df2t_row b a n) ++ entry L 0 0 one_fraction ∷ [];
+  entries = (entry N 0 0 (coefficient b 0) ∷ first_state n) ++ joined n (df2t_row b a n) ++ entry L 0 0 one_fraction ∷ [];
 }
 
-module _ (b a : List Fraction) (n : ℕ) (low : 1 ≤ length b) (wide : Greater n (order b) (order a)) (fits : FormFits (form_with b a n)) where
+module _ (b a : List Fraction) (n : ℕ) (low : 1 ≤ length b) (wide : Greater n (order b) (order a)) (fits : ImplicitFits (form_with b a n)) where
   abbrev s : Sizes
   s = single 1 n
 
@@ -73,7 +64,7 @@ module _ (b a : List Fraction) (n : ℕ) (low : 1 ≤ length b) (wide : Greater 
   variable = entry N 0 0 (coefficient b 0) ∷ first_state n
 
   abbrev states : List Entry
-  states = by_row n (df2t_row b a n)
+  states = joined n (df2t_row b a n)
 
   abbrev output : List Entry
   output = entry L 0 0 one_fraction ∷ []
@@ -121,7 +112,7 @@ module _ (b a : List Fraction) (n : ℕ) (low : 1 ≤ length b) (wide : Greater 
   numerator : (q : ℕ) → IsDenominator (net_alone (form_with b a n)) q → Suits q b
   numerator q d =
       let high : order b ≤ n = wide.left in
-      numerator_suits q b low
+      first_suits q b low
       (All-head (IsSuited q) (entry N 0 0 (coefficient b 0)) (first_state n) (all_of_both (IsSuited q) variable states (suited q d)).0 refl)
       (suits_by_place q (drop 1 b) (λ i l. subst (λ c. IsWholeOver q (plain c)) (sym (coefficient_next b i)) (state_suits q i d (omega (arith, l, high, length-drop 1 b))).0))
 
@@ -249,9 +240,9 @@ module _ (b a : List Fraction) (n : ℕ) (low : 1 ≤ length b) (wide : Greater 
   pub df2t_outputs : HasOutputs (form_with b a n) (tf_equations b a)
   df2t_outputs = has_outputs (form_with b a n) b a fits (record { inputs = refl; outputs = refl; numerator = numerator; denominator = denominator; meets = meets })
 
-pub df2t_has_outputs : (b a : List Fraction) → 1 ≤ length b → length b ≤ 13 → length a ≤ 13 → HasOutputs (df2t_form b a) (tf_equations b a)
+pub df2t_has_outputs : (b a : List Fraction) → 1 ≤ length b → length b ≤ COEFFICIENTS → length a ≤ COEFFICIENTS → HasOutputs (df2t_form b a) (tf_equations b a)
 df2t_has_outputs b a low high high_back =
     let n : ℕ = max (order b) (order a) in
     let wide = greater_order b a high high_back in
     let few : n ≤ 12 = wide.high in
-    df2t_outputs b a n low wide (fits_from 1 n (form_with b a n).entries (df2t_rises b a n few) (omega arith) (omega arith))
+    df2t_outputs b a n low wide (single_fits 1 n (form_with b a n).entries (df2t_ascends b a n few) (omega arith))

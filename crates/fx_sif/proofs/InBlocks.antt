@@ -12,8 +12,8 @@ use Rattle.fx_eqs.proofs.Distinct.{distinct_head}
 use Rattle.fx_net.specs.Net.{Net, plain}
 use Rattle.fx_net.specs.Rows.{reads_now, reads_old, reads_input, coefficient_or, coefficient, row_of, put_rows}
 use Rattle.fx_sif.specs.Blocks.{height, is_at, same_place}
-use Rattle.fx_sif.specs.Fits.{IsUnitLower, EntryFits, FormFits}
-use Rattle.fx_sif.specs.Form.{Form, rows, not_given, given_or}
+use Rattle.fx_sif.specs.Fits.{IsUnitLower, EntryFits, ImplicitFits}
+use Rattle.fx_sif.specs.Implicit.{Implicit, rows, not_given, given_or}
 use Rattle.fx_sif.specs.Laws.{JIsUnitLower, taken, NetsHaveBlocks}
 use Rattle.fx_sif.specs.Rows.{row_place, net_read, on_the_right, is_read, term_of, is_in_row, net_row, rows_of}
 use Rattle.fx_sif.specs.declared.parts.Block.{Block}
@@ -43,7 +43,7 @@ given_unit s i j d (e ∷ es) fits start = by_test (is_at J i j e) refl (given_u
         rw (place.0, place.1.0, place.1.1) at (All-head (EntryFits s) e es fits).unit_lower
     by_test false here rest = rest
 
-pub unit_lower : (f : Form) → FormFits f → JIsUnitLower f
+pub unit_lower : (f : Implicit) → ImplicitFits f → JIsUnitLower f
 unit_lower f fits i j h = given_unit f.sizes i j _ f.entries fits.entries (missing_unit f.sizes.t i j h)
 
 -- ---- one place among the entries
@@ -152,7 +152,7 @@ missing_zero s Q i j h = refl
 missing_zero s R i j h = refl
 missing_zero s S i j h = refl
 
-pub have_blocks : (f : Form) → FormFits f → NetsHaveBlocks f
+pub have_blocks : (f : Implicit) → ImplicitFits f → NetsHaveBlocks f
 have_blocks f fits at net b i j h k reads =
     let below : row_place f.sizes b i < rows f.sizes = place_below f.sizes b i h in
     taken-is (rows_of f) at (row_place f.sizes b i) net (net_read f.sizes b j) (omega (arith, below, length-rows f))

@@ -1,27 +1,24 @@
 -- What the tests refuse not, fits.
-use Rattle.std.proofs.Common.{◌≡◌, ℕ, ◌<◌, ◌≤◌, Bool, true, false, not, ◌&&◌, eqb, ltb, List, [], ◌∷◌, ◌++◌, All, None, arith, nat_le, pos, negsuc, ℤ, int_lt, unsigned_abs, append_assoc, ap, sym, ◌∙◌}
+use Rattle.std.proofs.Common.{◌≡◌, ℕ, ◌≤◌, Bool, true, false, not, ◌&&◌, eqb, ltb, List, [], ◌∷◌, ◌++◌, All, None, arith, pos, negsuc, ℤ, int_lt, unsigned_abs, append_assoc, ap, sym, ◌∙◌}
 use Rattle.std.specs.List.{IsDistinct, AllByRecursion, list_any}
 use Rattle.std.proofs.lemmas.Bool.{or_parts, ltb-false, eq-eqb, lt-ltb}
 use Rattle.std.proofs.lemmas.Bool.Decides.{nat_tests}
 use Rattle.std.proofs.lemmas.List.Elements.{All-nil, All-cons}
 use Rattle.fx_math.proofs.Faults.{if_none, or_none}
+use Rattle.fx_math.proofs.Orders.{not_le, not_zero}
 use Rattle.fx_nums.specs.Fraction.{Fraction, den_value, is_one, is_zero}
 use Rattle.fx_sif.specs.Blocks.{same_place}
 use Rattle.fx_sif.specs.Faults.{is_out, breaks_unit_lower, entry_fault, entries_fault, sif_fault}
-use Rattle.fx_sif.specs.Fits.{KeepsUnitLower, EntryFits, FormFits}
-use Rattle.fx_sif.specs.Form.{rows}
+use Rattle.fx_sif.specs.Fits.{KeepsUnitLower, EntryFits, ImplicitFits}
+use Rattle.fx_sif.specs.Implicit.{rows}
+use Rattle.fx_eqs.specs.declared.limits.TheConstants.{PORTS}
+use Rattle.fx_sif.specs.declared.limits.TheConstants.{FORM_ROWS}
 use Rattle.fx_sif.specs.declared.parts.Block.{Block}
 use Rattle.fx_sif.specs.declared.parts.Block.TheVariants.{J, K, L, M, N, P, Q, R, S}
 use Rattle.fx_sif.specs.declared.parts.Entry.{Entry}
 use Rattle.fx_sif.specs.declared.parts.Sizes.{Sizes}
 
 -- ---- what no fault means
-
-not_le : (a b : ℕ) → nat_le a b ≡ false → b < a
-not_le a b h = grind (arith, nat_tests)
-
-not_zero : (n : ℕ) → eqb n 0 ≡ false → 1 ≤ n
-not_zero n e = grind (arith, nat_tests)
 
 -- a count that passes is from 1 to the greatest
 inside : (greatest n : ℕ) → is_out greatest n ≡ false → (1 ≤ n) × (n ≤ greatest)
@@ -101,14 +98,14 @@ once_each s earlier (e ∷ es) h =
 
 -- ---- the form
 
-pub form_fits : (s : Sizes) (entries : List Entry) → sif_fault s entries ≡ None → FormFits (record { sizes = s; entries = entries })
+pub form_fits : (s : Sizes) (entries : List Entry) → sif_fault s entries ≡ None → ImplicitFits (record { sizes = s; entries = entries })
 form_fits s entries h =
     let row = if_none _ _ _ h in
     let input = if_none _ _ _ row.1 in
     let output = if_none _ _ _ input.1 in
-    let r = inside 40 (rows s) row.0 in
-    let u = inside 4 s.u input.0 in
-    let y = inside 4 s.y output.0 in
+    let r = inside FORM_ROWS (rows s) row.0 in
+    let u = inside PORTS s.u input.0 in
+    let y = inside PORTS s.y output.0 in
     record {
       rows_low = r.0;
       rows_high = r.1;

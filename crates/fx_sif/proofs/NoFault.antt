@@ -15,8 +15,10 @@ use Rattle.fx_eqs.proofs.Distinct.{distinct_head}
 use Rattle.fx_sif.specs.Blocks.{height, width, same_place}
 use Rattle.fx_sif.specs.Faults.{is_out, breaks_unit_lower, entry_fault, entries_fault}
 use Rattle.fx_sif.specs.Fits.{IsUnitLower, KeepsUnitLower, EntryFits}
-use Rattle.fx_sif.specs.Form.{rows}
+use Rattle.fx_sif.specs.Implicit.{rows}
 use Rattle.fx_sif.specs.Laws.{WhatFitsHasNoFault}
+use Rattle.fx_eqs.specs.declared.limits.TheConstants.{PORTS}
+use Rattle.fx_sif.specs.declared.limits.TheConstants.{FORM_ROWS}
 use Rattle.fx_sif.specs.declared.parts.Block.{Block}
 use Rattle.fx_sif.specs.declared.parts.Block.TheVariants.{J, K, L, M, N, P, Q, R, S}
 use Rattle.fx_sif.specs.declared.parts.Entry.{Entry}
@@ -95,7 +97,7 @@ inside greatest n low high = or_from _ _ (ne_eqb n 0 (λ e. omega (arith, low, e
 
 pub what_fits : WhatFitsHasNoFault
 what_fits f fits =
-    none_if _ _ _ (inside 40 (rows f.sizes) fits.rows_low fits.rows_high)
-    (none_if _ _ _ (inside 4 f.sizes.u fits.inputs_low fits.inputs_high)
-    (none_if _ _ _ (inside 4 f.sizes.y fits.outputs_low fits.outputs_high)
+    none_if _ _ _ (inside FORM_ROWS (rows f.sizes) fits.rows_low fits.rows_high)
+    (none_if _ _ _ (inside PORTS f.sizes.u fits.inputs_low fits.inputs_high)
+    (none_if _ _ _ (inside PORTS f.sizes.y fits.outputs_low fits.outputs_high)
     (no_entries_fault f.sizes [] f.entries fits.entries fits.once (λ k d h. refl))))

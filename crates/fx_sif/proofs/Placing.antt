@@ -13,7 +13,7 @@ use Rattle.fx_net.specs.Net.{Net, plain}
 use Rattle.fx_net.specs.Rows.{reads_now, reads_old, reads_input, coefficient_or, coefficient, row_of, is_within, put_table, put_rows, put_term, AreEmpty}
 use Rattle.fx_sif.specs.Blocks.{height}
 use Rattle.fx_sif.specs.Fits.{EntryFits}
-use Rattle.fx_sif.specs.Form.{Form, rows}
+use Rattle.fx_sif.specs.Implicit.{Implicit, rows}
 use Rattle.fx_sif.specs.Rows.{row_place, net_read, on_the_right, is_read, term_of, is_in_row, net_row, rows_of, put_entry, put_entries}
 use Rattle.fx_sif.specs.declared.parts.Block.{Block}
 use Rattle.fx_sif.specs.declared.parts.Block.TheVariants.{J, K, L, M, N, P, Q, R, S}
@@ -26,7 +26,7 @@ length-each : (n : ℕ) (f : ℕ → List NetTerm) → length (joined n (λ r. f
 length-each zero f = refl
 length-each (suc n) f = let before = length-each n f in length-append (joined n (λ r. f r ∷ [])) (f n ∷ []) ∙ (omega (arith, before))
 
-pub length-rows : (f : Form) → length (rows_of f) ≡ rows f.sizes
+pub length-rows : (f : Implicit) → length (rows_of f) ≡ rows f.sizes
 length-rows f = length-each (rows f.sizes) (net_row f.sizes f.entries)
 
 each-is : (n : ℕ) (f : ℕ → List NetTerm) (r : ℕ) → r < n → get_or (joined n (λ r. f r ∷ [])) r [] ≡ f r
@@ -40,7 +40,7 @@ each-is (suc n) f r h = by_place (cases_eq r n) (each-is n f r)
     by_place (inl a) before = ap (λ p. get_or (rest ++ f n ∷ []) p []) (a ∙ sym (length-each n f)) ∙ get_or-append_seam rest (f n) [] [] ∙ ap f (sym a)
     by_place (inr a) before = get_or_append_left rest (f n ∷ []) [] r (omega (arith, a, h, length-each n f)) ∙ before (omega (arith, a, h))
 
-pub row-rows : (f : Form) (r : ℕ) → r < rows f.sizes → row_of (rows_of f) r ≡ net_row f.sizes f.entries r
+pub row-rows : (f : Implicit) (r : ℕ) → r < rows f.sizes → row_of (rows_of f) r ≡ net_row f.sizes f.entries r
 unfolding row_of
 row-rows f r h = each-is (rows f.sizes) (net_row f.sizes f.entries) r h
 
@@ -137,7 +137,7 @@ module _ (table : Net → ℕ → ℕ → Fraction) (reads : ℕ → ℕ → Net
       ∙ entry_leaves s at e net i j (All-head (EntryFits s) e es fits) apart
 
   -- the whole table
-  table_is : (f : Form) (at : ℕ) (net : Net) → All (EntryFits f.sizes) f.entries → ((i j : ℕ) → at ≤ i → i < at + rows f.sizes → table net i j ≡ zero_fraction) →
+  table_is : (f : Implicit) (at : ℕ) (net : Net) → All (EntryFits f.sizes) f.entries → ((i j : ℕ) → at ≤ i → i < at + rows f.sizes → table net i j ≡ zero_fraction) →
       table (put_entries f.sizes at f.entries net) ≡ put_table (reads at) (rows_of f) at (table net)
   table_is f at net fits empty = fun_ext (λ i. fun_ext (λ j. by_place i j (cases_lt i at) (cases_lt i (at + rows f.sizes))))
     where
@@ -196,7 +196,7 @@ same_net : (n m : ℕ) (now now' old old' input input' : ℕ → ℕ → Fractio
     made n now old input class ≡ made m now' old' input' class'
 same_net n m now now' old old' input input' class class' a b c d e = rw (a, b, c, d, e) refl
 
-pub entries_make_rows : (f : Form) (at : ℕ) (net : Net) → All (EntryFits f.sizes) f.entries → AreEmpty at (rows f.sizes) net → put_entries f.sizes at f.entries net ≡ put_rows (rows_of f) at net
+pub entries_make_rows : (f : Implicit) (at : ℕ) (net : Net) → All (EntryFits f.sizes) f.entries → AreEmpty at (rows f.sizes) net → put_entries f.sizes at f.entries net ≡ put_rows (rows_of f) at net
 unfolding put_rows
 entries_make_rows f at net fits empty =
     let keeps = entries_keep f.sizes at f.entries net in

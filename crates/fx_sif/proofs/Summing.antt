@@ -17,11 +17,12 @@ use Rattle.fx_net.proofs.Coefficients.{NotRead, AreOnce, AllFit, value_at, net_s
 use Rattle.fx_net.proofs.Carried.{of_now, of_old, of_input}
 use Rattle.fx_net.proofs.Terms.{HasTerms, AllWhole, as_terms, whole_terms}
 use Rattle.fx_sif.specs.Blocks.{height, width, is_at, same_place}
-use Rattle.fx_sif.specs.Fits.{EntryFits, FormFits}
-use Rattle.fx_sif.specs.Form.{Form, rows}
+use Rattle.fx_sif.specs.Fits.{EntryFits, ImplicitFits}
+use Rattle.fx_sif.specs.Implicit.{Implicit, rows}
 use Rattle.fx_sif.specs.Rows.{row_place, net_read, on_the_right, is_read, term_of, is_in_row, net_row, rows_of}
 use Rattle.fx_sif.specs.Runs.{read_value, terms_value, RunsAreSums, DenominatorsDivide}
 use Rattle.fx_sif.specs.SameOutputs.{net_alone}
+use Rattle.fx_eqs.specs.declared.limits.TheConstants.{PORTS}
 use Rattle.fx_sif.specs.declared.parts.Block.{Block}
 use Rattle.fx_sif.specs.declared.parts.Block.TheVariants.{J, K, L, M, N, P, Q, R, S}
 use Rattle.fx_sif.specs.declared.parts.Entry.{Entry}
@@ -67,7 +68,7 @@ same_itself (Old a) = eq-eqb a a refl
 same_itself (In a) = eq-eqb a a refl
 
 -- a row of a form reads what is there
-pub reads_there : (s : Sizes) (r : ℕ) (b : Block) (i j : ℕ) → s.u ≤ 4 → i < height s b → j < width s b → is_read b i j ≡ true → row_place s b i ≡ r → ReadFits (rows s) 0 r (net_read s b j)
+pub reads_there : (s : Sizes) (r : ℕ) (b : Block) (i j : ℕ) → s.u ≤ PORTS → i < height s b → j < width s b → is_read b i j ≡ true → row_place s b i ≡ r → ReadFits (rows s) 0 r (net_read s b j)
 reads_there s r J i j few h k read place = let below : j < i = ltb-true j i read in omega arith
 reads_there s r K i j few h k read place = omega arith
 reads_there s r L i j few h k read place = omega arith
@@ -87,7 +88,7 @@ in_row Claim s r e es here elsewhere = by_test (is_in_row s r e) refl
     by_test true h = let p = and_parts (is_read e.block e.i e.j) (eqb (row_place s e.block e.i) r) h in here p.0 (eqb-true (row_place s e.block e.i) r p.1)
     by_test false h = elsewhere
 
-all_fit : (s : Sizes) (r : ℕ) (es : List Entry) → s.u ≤ 4 → All (EntryFits s) es → AllFit (rows s) 0 r (plains s es r)
+all_fit : (s : Sizes) (r : ℕ) (es : List Entry) → s.u ≤ PORTS → All (EntryFits s) es → AllFit (rows s) 0 r (plains s es r)
 all_fit s r [] few fits = tt
 all_fit s r (e ∷ es) few fits =
     let rest = all_fit s r es few (All-tail (EntryFits s) e es fits) in
@@ -126,35 +127,35 @@ once s r (e ∷ es) fits apart =
 -- ---- the net
 
 -- a row of the net alone has its row's coefficients
-pub row_is : (reads : NetRead → Bool) (f : Form) (r : ℕ) (c : Fraction) → r < rows f.sizes →
+pub row_is : (reads : NetRead → Bool) (f : Implicit) (r : ℕ) (c : Fraction) → r < rows f.sizes →
     cond (nat_le 0 r && nat_lt r (0 + length (rows_of f))) (coefficient reads (row_of (rows_of f) (r - 0))) c ≡ coefficient reads (net_row f.sizes f.entries r)
 row_is reads f r c h =
     cond-true _ _ _ (and_from _ _ (le-leb 0 r (omega arith)) (lt-ltb r (0 + length (rows_of f)) (omega (arith, h, length-rows f))))
     ∙ ap (λ p. coefficient reads (row_of (rows_of f) p)) (let same : r - 0 ≡ r = omega arith in same)
     ∙ ap (coefficient reads) (row-rows f r h)
 
-row_has : (reads : NetRead → Bool) (f : Form) (r : ℕ) (c : Fraction) → r < rows f.sizes →
+row_has : (reads : NetRead → Bool) (f : Implicit) (r : ℕ) (c : Fraction) → r < rows f.sizes →
     cond (nat_le 0 r && nat_lt r (0 + length (rows_of f))) (coefficient reads (row_of (rows_of f) (r - 0))) c ≡ coefficient reads (plains f.sizes f.entries r)
 row_has reads f r c h = row_is reads f r c h ∙ sym (plain_coefficient reads zero_fraction (net_row f.sizes f.entries r))
 
-now_has : (f : Form) (r j : ℕ) → r < rows f.sizes → (net_alone f).now r j ≡ coefficient (reads_now 0 j) (plains f.sizes f.entries r)
+now_has : (f : Implicit) (r j : ℕ) → r < rows f.sizes → (net_alone f).now r j ≡ coefficient (reads_now 0 j) (plains f.sizes f.entries r)
 unfolding put_rows
 now_has f r j h = row_has (reads_now 0 j) f r _ h
 
-old_has : (f : Form) (r j : ℕ) → r < rows f.sizes → (net_alone f).old r j ≡ coefficient (reads_old 0 j) (plains f.sizes f.entries r)
+old_has : (f : Implicit) (r j : ℕ) → r < rows f.sizes → (net_alone f).old r j ≡ coefficient (reads_old 0 j) (plains f.sizes f.entries r)
 unfolding put_rows
 old_has f r j h = row_has (reads_old 0 j) f r _ h
 
-input_has : (f : Form) (r j : ℕ) → r < rows f.sizes → (net_alone f).input r j ≡ coefficient (reads_input j) (plains f.sizes f.entries r)
+input_has : (f : Implicit) (r j : ℕ) → r < rows f.sizes → (net_alone f).input r j ≡ coefficient (reads_input j) (plains f.sizes f.entries r)
 unfolding put_rows
 input_has f r j h = row_has (reads_input j) f r _ h
 
-rows_alone : (f : Form) → (net_alone f).rows ≡ rows f.sizes
+rows_alone : (f : Implicit) → (net_alone f).rows ≡ rows f.sizes
 unfolding put_rows
 rows_alone f = refl
 
 -- a row of the net alone has its row's terms
-has_terms : (f : Form) (r : ℕ) → FormFits f → r < rows f.sizes → HasTerms (net_alone f) 0 r (plains f.sizes f.entries r)
+has_terms : (f : Implicit) (r : ℕ) → ImplicitFits f → r < rows f.sizes → HasTerms (net_alone f) 0 r (plains f.sizes f.entries r)
 has_terms f r fits h =
     let first : 0 + r ≡ r = omega arith in
     let inside : 0 + r < rows f.sizes = omega (arith, h) in
@@ -178,7 +179,7 @@ sum_is : (net : Net) (q : ℕ) (u z : ℕ → ℕ → ℤ) (k r : ℕ) (ts : Lis
 sum_is net q u z k r [] = refl
 sum_is net q u z k r (t ∷ ts) = ap₂ (λ x y. x +ℤ y) (ap₂ (λ x y. x *ℤ y) (over-plain q t.coef) (value_is net q u z k r t.from)) (sum_is net q u z k r ts)
 
-pub runs_are_sums : (f : Form) → FormFits f → RunsAreSums f
+pub runs_are_sums : (f : Implicit) → ImplicitFits f → RunsAreSums f
 runs_are_sums f fits q u z run k r h =
     let net : Net = net_alone f in
     let ts = plains f.sizes f.entries r in
@@ -197,5 +198,5 @@ as_given : (q : ℕ) (ts : List NetTerm) → AllWhole q (map plain_term ts) → 
 as_given q [] whole = All-nil (λ (t : NetTerm). IsWholeOver q (plain t.coef))
 as_given q (t ∷ ts) whole = All-cons (λ (t : NetTerm). IsWholeOver q (plain t.coef)) t ts whole.0 (as_given q ts whole.1)
 
-pub denominators_divide : (f : Form) → FormFits f → DenominatorsDivide f
+pub denominators_divide : (f : Implicit) → ImplicitFits f → DenominatorsDivide f
 denominators_divide f fits q den r h = as_given q (net_row f.sizes f.entries r) (whole_terms (net_alone f) 0 q r (plains f.sizes f.entries r) den (has_terms f r fits h))

@@ -9,7 +9,7 @@ use Rattle.fx_net.specs.Run.{IsDenominator}
 use Rattle.fx_net.specs.Running.{widest}
 use Rattle.fx_net.proofs.Widest.{divides_widest}
 use Rattle.fx_sif.specs.Fits.{CoefficientsFit}
-use Rattle.fx_sif.specs.Form.{Form, rows}
+use Rattle.fx_sif.specs.Implicit.{Implicit, rows}
 use Rattle.fx_sif.specs.Rows.{on_the_right, term_of, is_in_row, net_row, rows_of}
 use Rattle.fx_sif.specs.SameOutputs.{net_alone}
 use Rattle.fx_sif.specs.declared.parts.Block.{Block}
@@ -57,11 +57,11 @@ row_fits reads s r (e ∷ es) c fits h =
     by_row rest false = rest c h
 
 -- what a row of the net alone takes of a source
-table_fits : (f : Form) (reads : NetRead → Bool) (r : ℕ) (c : Fraction) → CoefficientsFit f.entries → r < rows f.sizes →
+table_fits : (f : Implicit) (reads : NetRead → Bool) (r : ℕ) (c : Fraction) → CoefficientsFit f.entries → r < rows f.sizes →
     DenFits (cond (nat_le 0 r && nat_lt r (0 + length (rows_of f))) (coefficient reads (row_of (rows_of f) (r - 0))) c).den
 table_fits f reads r c fits h = subst (λ (x : Fraction). DenFits x.den) (sym (row_is reads f r c h)) (row_fits reads f.sizes r f.entries zero_fraction fits (omega arith))
 
-pub form_over_widest : (f : Form) → CoefficientsFit f.entries → IsDenominator (net_alone f) widest
+pub form_over_widest : (f : Implicit) → CoefficientsFit f.entries → IsDenominator (net_alone f) widest
 unfolding put_rows
 form_over_widest f fits = record {
   positive = omega arith;

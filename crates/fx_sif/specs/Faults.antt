@@ -1,11 +1,13 @@
 -- The first fault of an implicit form, and the fault that an answer tells.
-use Rattle.std.specs.Prelude.{ℕ, nat_lt, nat_le, ◌==◌, Bool, false, not, ◌&&◌, ◌||◌, List, [], ◌∷◌, ◌++◌, length, Option, Some, None, Result, Ok, Err}
+use Rattle.std.specs.Prelude.{ℕ, nat_lt, nat_le, ◌==◌, Bool, true, false, not, ◌&&◌, ◌||◌, List, [], ◌∷◌, ◌++◌, length, Option, None}
 use Rattle.std.specs.Option.{option_or}
 use Rattle.std.specs.List.{list_any}
 use Rattle.fx_math.specs.Faults.{fault_if}
 use Rattle.fx_nums.specs.Fraction.{Fraction, is_one, is_zero}
 use Rattle.fx_sif.specs.Blocks.{height, width, same_place}
-use Rattle.fx_sif.specs.Form.{rows}
+use Rattle.fx_sif.specs.Implicit.{rows}
+use Rattle.fx_eqs.specs.declared.limits.TheConstants.{PORTS}
+use Rattle.fx_sif.specs.declared.limits.TheConstants.{FORM_ROWS}
 use Rattle.fx_sif.specs.declared.parts.Block.{Block}
 use Rattle.fx_sif.specs.declared.parts.Block.TheVariants.{J}
 use Rattle.fx_sif.specs.declared.parts.Entry.{Entry}
@@ -22,9 +24,9 @@ is_out greatest n = n == 0 || nat_lt greatest n
 -- of the rows, the inputs, the outputs
 abbrev pub limit_fault : Sizes → Option SifFault → Option SifFault
 limit_fault s rest =
-    fault_if (is_out 40 (rows s)) (Limit (rows s)) (
-    fault_if (is_out 4 s.u) (Limit s.u) (
-    fault_if (is_out 4 s.y) (Limit s.y) rest))
+    fault_if (is_out FORM_ROWS (rows s)) (Limit (rows s)) (
+    fault_if (is_out PORTS s.u) (Limit s.u) (
+    fault_if (is_out PORTS s.y) (Limit s.y) rest))
 
 -- ---- one entry
 
@@ -54,15 +56,7 @@ sif_fault s entries = limit_fault s (entries_fault s [] entries)
 
 -- ---- an answer
 
--- the fault that an error tells: none where memory was refused
-abbrev pub told : SifFault → Option SifFault
-told NoMemory = None
-told (Shape place) = Some (Shape place)
-told (NotUnitLower i j) = Some (NotUnitLower i j)
-told (Twice place) = Some (Twice place)
-told (Limit count) = Some (Limit count)
-
--- the fault that an answer tells: none where the form was made
-abbrev pub fault_told : {T : Type 0} → Result T SifFault → Option SifFault
-fault_told (Ok x) = None
-fault_told (Err fault) = told fault
+-- memory was refused
+abbrev pub is_memory : SifFault → Bool
+is_memory NoMemory = true
+is_memory _ = false

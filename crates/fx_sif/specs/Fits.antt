@@ -3,7 +3,9 @@ use Rattle.std.specs.Prelude.{◌≡◌, ℕ, pos, ◌<◌, ◌≤◌, ⊤, List
 use Rattle.std.specs.List.{IsDistinct}
 use Rattle.fx_nums.specs.Fraction.{Fraction, DenFits, den_value}
 use Rattle.fx_sif.specs.Blocks.{height, width, same_place}
-use Rattle.fx_sif.specs.Form.{Form, rows}
+use Rattle.fx_sif.specs.Implicit.{Implicit, rows}
+use Rattle.fx_eqs.specs.declared.limits.TheConstants.{PORTS}
+use Rattle.fx_sif.specs.declared.limits.TheConstants.{FORM_ROWS}
 use Rattle.fx_sif.specs.declared.parts.Block.{Block}
 use Rattle.fx_sif.specs.declared.parts.Block.TheVariants.{J}
 use Rattle.fx_sif.specs.declared.parts.Entry.{Entry}
@@ -25,13 +27,13 @@ pub record EntryFits (s : Sizes) (e : Entry) : Type 0 where
   pub unit_lower : KeepsUnitLower e.block e.i e.j e.coef
 
 -- a form
-pub record FormFits (f : Form) : Type 0 where
+pub record ImplicitFits (f : Implicit) : Type 0 where
   pub rows_low : 1 ≤ rows f.sizes
-  pub rows_high : rows f.sizes ≤ 40
+  pub rows_high : rows f.sizes ≤ FORM_ROWS
   pub inputs_low : 1 ≤ f.sizes.u
-  pub inputs_high : f.sizes.u ≤ 4
+  pub inputs_high : f.sizes.u ≤ PORTS
   pub outputs_low : 1 ≤ f.sizes.y
-  pub outputs_high : f.sizes.y ≤ 4
+  pub outputs_high : f.sizes.y ≤ PORTS
   pub entries : All (EntryFits f.sizes) f.entries
   pub once : IsDistinct (λ (e g : Entry). same_place g e) f.entries
 

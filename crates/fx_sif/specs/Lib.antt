@@ -1,7 +1,8 @@
 pub mod Blocks
+pub mod Entries
 pub mod Faults
 pub mod Fits
-pub mod Form
+pub mod Implicit
 pub mod Inside
 pub mod Laws
 pub mod Rows

@@ -6,7 +6,7 @@ use Rattle.fx_eqs.specs.Expanded.{NetRead, NetTerm}
 use Rattle.fx_eqs.specs.Expanded.NetRead.{Now, Old, In}
 use Rattle.fx_net.specs.Net.{Net}
 use Rattle.fx_net.specs.Rows.{put_term}
-use Rattle.fx_sif.specs.Form.{Form, rows}
+use Rattle.fx_sif.specs.Implicit.{Implicit, rows}
 use Rattle.fx_sif.specs.declared.parts.Block.{Block}
 use Rattle.fx_sif.specs.declared.parts.Block.TheVariants.{J, K, L, M, N, P, Q, R, S}
 use Rattle.fx_sif.specs.declared.parts.Entry.{Entry}
@@ -58,7 +58,7 @@ abbrev pub net_row : Sizes → List Entry → ℕ → List NetTerm
 net_row s entries r = map (term_of s) (filter (is_in_row s r) entries)
 
 -- the rows in their order, each a list of its terms
-abbrev pub rows_of : Form → List (List NetTerm)
+abbrev pub rows_of : Implicit → List (List NetTerm)
 rows_of f = joined (rows f.sizes) (λ r. net_row f.sizes f.entries r ∷ [])
 
 -- ---- one entry after another, where the rows stand from a place on

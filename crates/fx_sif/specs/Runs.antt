@@ -6,7 +6,7 @@ use Rattle.fx_eqs.specs.Expanded.{NetRead, NetTerm}
 use Rattle.fx_eqs.specs.Expanded.NetRead.{Now, Old, In}
 use Rattle.fx_net.specs.Net.{plain}
 use Rattle.fx_net.specs.Run.{IsDenominator, IsRun}
-use Rattle.fx_sif.specs.Form.{Form, rows}
+use Rattle.fx_sif.specs.Implicit.{Implicit, rows}
 use Rattle.fx_sif.specs.Rows.{net_row}
 use Rattle.fx_sif.specs.SameOutputs.{net_alone}
 
@@ -22,12 +22,12 @@ terms_value n q u z k r [] = pos 0
 terms_value n q u z k r (t ∷ ts) = over q t.coef *ℤ read_value n q u z k r t.from +ℤ terms_value n q u z k r ts
 
 -- in each run without perturbation, each row is the sum of its terms at each moment
-abbrev pub RunsAreSums : Form → Type 0
+abbrev pub RunsAreSums : Implicit → Type 0
 RunsAreSums f =
     (q : ℕ) (u z : ℕ → ℕ → ℤ) → IsRun (net_alone f) q u z (λ k i. pos 0) →
     (k r : ℕ) → r < rows f.sizes → z k r ≡ terms_value (rows f.sizes) q u z k r (net_row f.sizes f.entries r)
 
 -- a denominator of the net is one of each row's terms; that of a coefficient of value 0 does not count
-abbrev pub DenominatorsDivide : Form → Type 0
+abbrev pub DenominatorsDivide : Implicit → Type 0
 DenominatorsDivide f =
     (q : ℕ) → IsDenominator (net_alone f) q → (r : ℕ) → r < rows f.sizes → All (λ (t : NetTerm). IsWholeOver q (plain t.coef)) (net_row f.sizes f.entries r)

@@ -4,7 +4,9 @@ ghost use Rattle.fx_sif.specs.Blocks.{height, is_at, same_place, width};
 ghost use Rattle.fx_sif.specs.Faults.{breaks_unit_lower, entries_fault, entry_fault, is_out, limit_fault, sif_fault};
 
 use crate::fault::SifFault;
+use crate::limits::FORM_ROWS;
 use crate::parts::{Block, Entry, Sizes};
+use fx_eqs::PORTS;
 
 // How many rows a block has.
 fn height(sizes: Sizes, block: Block) -> u8
@@ -47,14 +49,14 @@ fn limit_fault(sizes: Sizes) -> Option<SifFault>
     ensures { result ≡ limit_fault sizes None }
 {
     let rows = usize::from(sizes.t) + usize::from(sizes.x) + usize::from(sizes.y);
-    if is_out(40, rows) {
+    if is_out(FORM_ROWS, rows) {
         return Some(SifFault::Limit(rows));
     }
     let (inputs, outputs) = (usize::from(sizes.u), usize::from(sizes.y));
-    if is_out(4, inputs) {
+    if is_out(PORTS, inputs) {
         return Some(SifFault::Limit(inputs));
     }
-    if is_out(4, outputs) {
+    if is_out(PORTS, outputs) {
         return Some(SifFault::Limit(outputs));
     }
     None

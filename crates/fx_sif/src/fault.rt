@@ -7,7 +7,8 @@ pub enum SifFault {
     NotUnitLower(u8, u8),
     /// An earlier entry has the same block, row and column.
     Twice(u32),
-    /// So many rows, and they are 0 or more than 40; or so many inputs or outputs, and they are 0 or more than 4.
+    /// So many rows, and they are 0 or more than `FORM_ROWS`; or so many inputs or outputs, and they are 0 or more than
+    /// `PORTS` of fx_eqs.
     Limit(usize),
     /// Memory was refused.
     NoMemory,

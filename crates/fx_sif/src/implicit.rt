@@ -3,16 +3,20 @@ ghost use Rattle.fx_net.specs.Rows.{AreEmpty, put_rows};
 ghost use Rattle.fx_net.specs.Run.{IsDenominator};
 ghost use Rattle.fx_net.specs.Running.{widest};
 ghost use Rattle.fx_net.specs.Tables.{net_of};
-ghost use Rattle.fx_sif.specs.Faults.{fault_told, sif_fault};
-ghost use Rattle.fx_sif.specs.Fits.{CoefficientsFit, FormFits};
-ghost use Rattle.fx_sif.specs.Form.{Form, entry_of, given_or, not_given, rows};
+ghost use Rattle.fx_math.specs.Answers.{fault_told};
+ghost use Rattle.fx_sif.specs.Faults.{is_memory, sif_fault};
+ghost use Rattle.fx_sif.specs.Fits.{CoefficientsFit, ImplicitFits};
+ghost use Rattle.fx_sif.specs.Laws.{NeverRefused};
+ghost use Rattle.fx_sif.specs.Implicit.{Implicit, entry_of, given_or, not_given, rows};
 ghost use Rattle.fx_sif.specs.Rows.{rows_of};
 ghost use Rattle.fx_sif.specs.SameOutputs.{net_alone};
 
 use crate::checks::{is_at, sif_fault};
 use crate::fault::SifFault;
+use crate::limits::FORM_ROWS;
 use crate::parts::{Block, Entry, Sizes};
 use crate::rows::put_entries;
+use fx_eqs::PORTS;
 use fx_net::Net;
 use fx_nums::Frac;
 use std::alloc::{AllocError, Global};
@@ -28,16 +32,16 @@ pub struct Sif {
 }
 
 impl Model for Sif {
-    ghost use Rattle.fx_sif.specs.Form.{Form};
+    ghost use Rattle.fx_sif.specs.Implicit.{Implicit};
 
-    ghost Value = { Form };
+    ghost Value = { Implicit };
 
     ghost use Rattle.fx_sif.specs.Inside.{form_of};
-    ghost use Rattle.fx_sif.specs.Fits.{FormFits};
+    ghost use Rattle.fx_sif.specs.Fits.{ImplicitFits};
 
     ghost view = { form_of };
 
-    ghost invariant = { λ s. FormFits (form_of s) };
+    ghost invariant = { λ s. ImplicitFits (form_of s) };
 }
 
 // What stands where nothing was given.
@@ -70,7 +74,7 @@ impl Sif {
     pub fn build(alloc: Global, sizes: Sizes, entries: &[Entry]) -> Result<Sif, SifFault>
         requires entries { length entries.now < 2 ^ 32 }
         ensures ok { IfOk result (λ s. s ≡ record { sizes = sizes; entries = entries.now }) }
-        ensures fault { sif_fault sizes entries.now ≡ fault_told result }
+        ensures fault { sif_fault sizes entries.now ≡ fault_told is_memory result }
     {
         if let Some(fault) = sif_fault(sizes, entries) {
             return Err(fault);
@@ -81,23 +85,39 @@ impl Sif {
         Ok(Sif { sizes, entries })
     }
 
-    /// How many intermediate variables, states, inputs and outputs there are: 1 to 4 inputs and 1 to 4 outputs.
+    /// The form of counts and entries that are never refused. Its error is want of memory.
+    pub fn build_unrefused(
+        alloc: Global,
+        sizes: Sizes,
+        entries: &[Entry],
+    ) -> Result<Sif, AllocError>
+        requires { NeverRefused (record { sizes = sizes; entries = entries.now }) }
+        ensures { IfOk result (λ s. s ≡ record { sizes = sizes; entries = entries.now }) }
+    {
+        match Sif::build(alloc, sizes, entries) {
+            Ok(form) => Ok(form),
+            Err(SifFault::NoMemory) => Err(AllocError),
+            Err(_) => unreachable!(),
+        }
+    }
+
+    /// How many intermediate variables, states, inputs and outputs there are: 1 to `PORTS` inputs and outputs.
     pub fn sizes(&self) -> Sizes
         ensures value { result ≡ self.now.sizes }
         ensures inputs_low { 1 ≤ result.u }
-        ensures inputs_high { result.u ≤ 4 }
+        ensures inputs_high { result.u ≤ PORTS }
         ensures outputs_low { 1 ≤ result.y }
-        ensures outputs_high { result.y ≤ 4 }
-        ensures rows_high { rows result ≤ 40 }
+        ensures outputs_high { result.y ≤ PORTS }
+        ensures rows_high { rows result ≤ FORM_ROWS }
     {
         self.sizes
     }
 
-    /// How many rows there are, one for each intermediate variable, each state and each output: 1 to 40.
+    /// How many rows there are, one for each intermediate variable, each state and each output: 1 to `FORM_ROWS`.
     pub fn rows(&self) -> usize
         ensures value { result ≡ rows self.now.sizes }
         ensures low { 1 ≤ result }
-        ensures high { result ≤ 40 }
+        ensures high { result ≤ FORM_ROWS }
     {
         usize::from(self.sizes.t) + usize::from(self.sizes.x) + usize::from(self.sizes.y)
     }
@@ -140,7 +160,7 @@ impl Sif {
 
 /// A law with nothing to run: each form keeps the limits.
 pub fn forms_fit(form: &Sif)
-    ensures { FormFits form.now }
+    ensures { ImplicitFits form.now }
 {
     let _ = &form.sizes;
 }

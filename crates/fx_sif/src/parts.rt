@@ -38,15 +38,15 @@ pub struct Entry {
     pub coef: Frac,
 }
 
-/// How many intermediate variables, states, inputs and outputs there are. The rows, `t + x + y`, are at most 40.
+/// How many intermediate variables, states, inputs and outputs there are. The rows, `t + x + y`, are at most `FORM_ROWS`.
 #[derive(Clone, Copy, Debug, PartialEq, Eq)]
 pub struct Sizes {
     /// Intermediate variables: 0 to 39.
     pub t: u8,
     /// States: 0 to 39.
     pub x: u8,
-    /// Inputs: 1 to 4.
+    /// Inputs: 1 to `PORTS` of fx_eqs.
     pub u: u8,
-    /// Outputs: 1 to 4.
+    /// Outputs: 1 to `PORTS` of fx_eqs.
     pub y: u8,
 }

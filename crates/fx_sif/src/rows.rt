@@ -1,10 +1,11 @@
 ghost use Rattle.std.specs.Prelude.{◌≡◌, ◌+◌, ◌<◌, ◌≤◌, All};
 ghost use Rattle.fx_net.specs.Tables.{net_of};
 ghost use Rattle.fx_sif.specs.Fits.{EntryFits};
-ghost use Rattle.fx_sif.specs.Form.{rows};
+ghost use Rattle.fx_sif.specs.Implicit.{rows};
 ghost use Rattle.fx_sif.specs.Rows.{put_entries, put_entry, row_place};
 
 use crate::parts::{Block, Entry, Sizes};
+use fx_eqs::PORTS;
 use fx_net::Net;
 
 // The row of an entry: intermediate variables come first, then states, then outputs.
@@ -28,7 +29,7 @@ fn row_place(sizes: Sizes, entry: &Entry) -> usize
 // Puts one entry into its row of the net; the first row stands at `at`.
 fn put_entry<const N: usize>(sizes: Sizes, entry: &Entry, net: &mut Net<N>, at: usize)
     requires fits { EntryFits sizes entry.now }
-    requires inputs { sizes.u ≤ 4 }
+    requires inputs { sizes.u ≤ PORTS }
     requires room { at + rows sizes ≤ N }
     ensures { net_of net.new ≡ put_entry sizes at entry.now (net_of net.old) }
 {
@@ -47,7 +48,7 @@ fn put_entry<const N: usize>(sizes: Sizes, entry: &Entry, net: &mut Net<N>, at: 
 /// Puts each entry into its row of the net; the first row stands at `at`.
 pub fn put_entries<const N: usize>(sizes: Sizes, entries: &[Entry], net: &mut Net<N>, at: usize)
     requires fits { All (EntryFits sizes) entries.now }
-    requires inputs { sizes.u ≤ 4 }
+    requires inputs { sizes.u ≤ PORTS }
     requires room { at + rows sizes ≤ N }
     ensures { net_of net.new ≡ put_entries sizes at entries.now (net_of net.old) }
 {

@@ -1,4 +1,4 @@
-use Rattle.fx_direct.proofs.Rising.{df2_never_refused}
+use Rattle.fx_direct.proofs.NeverRefused.{df2_never_refused}
 use Rattle.fx_direct.proofs.laws.df2_is_never_refused.Goals as goal
 
 pub returns : goal.returns

@@ -1,4 +1,4 @@
-use Rattle.fx_direct.proofs.Rising.{fir_never_refused}
+use Rattle.fx_direct.proofs.NeverRefused.{fir_never_refused}
 use Rattle.fx_direct.proofs.laws.fir_is_never_refused.Goals as goal
 
 pub returns : goal.returns

@@ -1,5 +1,5 @@
 use Rattle.std.proofs.Common.{◌≡◌, drop}
-use Rattle.fx_sif.specs.Form.{given_or}
+use Rattle.fx_sif.specs.Implicit.{given_or}
 use Rattle.fx_sif.proofs.implicit.given_or.Given as goal
 
 abbrev pub invariant-loop-entry : goal.invariant-loop-entry

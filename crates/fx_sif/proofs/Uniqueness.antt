@@ -2,8 +2,8 @@
 use Rattle.std.proofs.Common.{◌≡◌, ℕ, zero, suc, ◌+◌, ◌<◌, ◌≤◌, List, [], ◌∷◌, refl, arith, sym, ap, ap₂, ◌∙◌}
 use Rattle.std.proofs.Math.IntN.{ℤ, pos, ◌+ℤ◌, ◌*ℤ◌}
 use Rattle.fx_nums.specs.Fraction.{Fraction}
-use Rattle.fx_direct.proofs.Ago.{ago, weigh}
-use Rattle.fx_direct.proofs.Lifting.{cancelled}
+use Rattle.fx_sif.proofs.Earlier.{ago, weigh}
+use Rattle.fx_sif.proofs.OneScale.{cancelled}
 
 pub ago_same : (x y : ℕ → ℤ) (k l : ℕ) → ((j : ℕ) → j ≤ k → x j ≡ y j) → ago x k l ≡ ago y k l
 ago_same x y k zero h = h k (omega arith)

@@ -5,10 +5,10 @@ use Rattle.std.proofs.lemmas.Int.{ints}
 use Rattle.std.proofs.lemmas.List.{drop_all}
 use Rattle.fx_math.proofs.Ring.{mul-add, mul_assoc, mul_comm}
 use Rattle.fx_nums.specs.Fraction.{Fraction, minus}
-use Rattle.fx_mat.specs.Entries.{zero_fraction}
-use Rattle.fx_direct.specs.Entries.{coefficient}
-use Rattle.fx_direct.proofs.Ago.{ago, weigh}
-use Rattle.fx_direct.proofs.Unique.{ago_same}
+use Rattle.fx_nums.specs.Fraction.{zero_fraction}
+use Rattle.fx_sif.specs.Entries.{coefficient}
+use Rattle.fx_sif.proofs.Earlier.{ago, weigh}
+use Rattle.fx_sif.proofs.Uniqueness.{ago_same}
 
 -- ---- one sequence
 

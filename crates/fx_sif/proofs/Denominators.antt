@@ -1,13 +1,14 @@
 -- A denominator of a form's net suits the coefficients that the form was given.
-use Rattle.std.proofs.Common.{◌≡◌, ℕ, zero, suc, ◌+◌, ◌<◌, Bool, true, false, cond, List, [], ◌∷◌, ◌++◌, filter, map, All, refl, arith, subst, ◌⊎◌, inl, inr}
+use Rattle.std.proofs.Common.{◌≡◌, ℕ, zero, suc, ◌+◌, ◌<◌, ◌≤◌, Bool, true, false, cond, List, [], ◌∷◌, ◌++◌, length, filter, map, drop, All, refl, arith, subst, ◌⊎◌, inl, inr}
 use Rattle.std.proofs.lemmas.Bool.{eq-eqb, and_from, cond-true, cases_eq}
 use Rattle.std.proofs.lemmas.List.Elements.{All-head, All-tail, All-nil, All-cons}
+use Rattle.fx_math.specs.Sums.{joined}
 use Rattle.fx_nums.specs.Fraction.{Fraction, IsWholeOver}
 use Rattle.fx_eqs.specs.Expanded.{NetTerm}
 use Rattle.fx_net.specs.Net.{plain}
 use Rattle.fx_net.specs.Run.{IsDenominator}
-use Rattle.fx_sif.specs.Fits.{EntryFits, FormFits}
-use Rattle.fx_sif.specs.Form.{Form, rows}
+use Rattle.fx_sif.specs.Fits.{EntryFits, ImplicitFits}
+use Rattle.fx_sif.specs.Implicit.{Implicit, rows}
 use Rattle.fx_sif.specs.Rows.{row_place, on_the_right, is_read, is_in_row, net_row, term_of}
 use Rattle.fx_sif.specs.SameOutputs.{net_alone}
 use Rattle.fx_sif.specs.declared.parts.Block.{Block}
@@ -15,8 +16,7 @@ use Rattle.fx_sif.specs.declared.parts.Entry.{Entry}
 use Rattle.fx_sif.specs.declared.parts.Sizes.{Sizes}
 use Rattle.fx_sif.proofs.Placing.{place_below}
 use Rattle.fx_sif.proofs.Summing.{denominators_divide}
-use Rattle.fx_direct.specs.Entries.{across, by_row}
-use Rattle.fx_direct.proofs.Exact.{Suits}
+use Rattle.fx_sif.specs.Entries.{coefficient, across}
 
 -- ---- lists in parts
 
@@ -26,9 +26,9 @@ all_of_both P (x ∷ xs) ys h =
     let rest = all_of_both P xs ys (All-tail P x (xs ++ ys) h) in
     (All-cons P x xs (All-head P x (xs ++ ys) h) rest.0, rest.1)
 
-pub all_of_rows : (P : Entry → Type 0) (n : ℕ) (f : ℕ → List Entry) → All P (by_row n f) → (i : ℕ) → i < n → All P (f i)
+pub all_of_rows : (P : Entry → Type 0) (n : ℕ) (f : ℕ → List Entry) → All P (joined n f) → (i : ℕ) → i < n → All P (f i)
 all_of_rows P zero f h i l = absurd (omega arith)
-all_of_rows P (suc n) f h i l = let p = all_of_both P (by_row n f) (f n) h in by_place (all_of_rows P n f p.0 i) p.1 (cases_eq i n)
+all_of_rows P (suc n) f h i l = let p = all_of_both P (joined n f) (f n) h in by_place (all_of_rows P n f p.0 i) p.1 (cases_eq i n)
   where
     by_place : (i < n → All P (f i)) → All P (f n) → (i ≡ n) ⊎ (i ≡ n → ⊥) → All P (f i)
     by_place before last (inl same) = rw same last
@@ -66,8 +66,27 @@ each_suited s q (e ∷ es) fits whole =
         All-head (λ (t : NetTerm). IsWholeOver q (plain t.coef)) (term_of s e) (net_row s es r)
         (subst (λ gs. AreWhole q (map (term_of s) gs)) here (whole r (place_below s e.block e.i fit.row)))
 
-pub entries_suited : (f : Form) → FormFits f → (q : ℕ) → IsDenominator (net_alone f) q → All (IsSuited q) f.entries
+pub entries_suited : (f : Implicit) → ImplicitFits f → (q : ℕ) → IsDenominator (net_alone f) q → All (IsSuited q) f.entries
 entries_suited f fits q denominator = each_suited f.sizes q f.entries fits.entries (denominators_divide f fits q denominator)
+
+-- ---- coefficients
+
+-- each coefficient that is not 0 is whole over q
+abbrev pub Suits : ℕ → List Fraction → Type 0
+Suits q cs = All (λ (c : Fraction). IsWholeOver q (plain c)) cs
+
+pub suits_by_place : (q : ℕ) (cs : List Fraction) →
+    ((i : ℕ) → i < length cs → IsWholeOver q (plain (coefficient cs i))) → Suits q cs
+suits_by_place q [] h = All-nil (λ (c : Fraction). IsWholeOver q (plain c))
+suits_by_place q (c ∷ cs) h =
+    All-cons (λ (c : Fraction). IsWholeOver q (plain c)) c cs (h 0 (omega arith))
+    (suits_by_place q cs (λ i l. h (suc i) (omega arith)))
+
+-- the first, and those behind it
+pub first_suits : (q : ℕ) (b : List Fraction) → 1 ≤ length b → IsWholeOver q (plain (coefficient b 0)) →
+    Suits q (drop 1 b) → Suits q b
+first_suits q [] h first rest = absurd (omega arith)
+first_suits q (c ∷ cs) h first rest = All-cons (λ (c : Fraction). IsWholeOver q (plain c)) c cs first rest
 
 -- coefficients across a row of a block that is read with its sign
 pub across_suits : (q : ℕ) (b : Block) (i : ℕ) (cs : List Fraction) (j : ℕ) → ((j : ℕ) → is_read b i j ≡ true) → ((c : Fraction) → on_the_right b c ≡ c) → All (IsSuited q) (across b i j cs) → Suits q cs

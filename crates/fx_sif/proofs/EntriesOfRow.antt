@@ -2,12 +2,13 @@
 use Rattle.std.proofs.Common.{◌≡◌, ℕ, zero, suc, ◌+◌, ◌<◌, ◌≤◌, ◌⊎◌, inl, inr, true, eqb, List, [], ◌∷◌, ◌++◌, filter, refl, arith, sym, ap, ap₂, ◌∙◌}
 use Rattle.std.proofs.lemmas.Bool.{cond-true, cond-false, and_right, and_from, eq-eqb, ne_eqb, cases_lt}
 use Rattle.std.proofs.lemmas.List.Elements.{filter-append}
+use Rattle.fx_math.specs.Sums.{joined}
 use Rattle.fx_nums.specs.Fraction.{Fraction}
 use Rattle.fx_sif.specs.Rows.{row_place, is_read, is_in_row}
 use Rattle.fx_sif.specs.declared.parts.Block.{Block}
 use Rattle.fx_sif.specs.declared.parts.Entry.{Entry}
 use Rattle.fx_sif.specs.declared.parts.Sizes.{Sizes}
-use Rattle.fx_direct.specs.Entries.{across, by_row}
+use Rattle.fx_sif.specs.Entries.{across}
 
 -- all are read in row p
 abbrev pub InRow : Sizes → ℕ → List Entry → Type 0
@@ -32,10 +33,10 @@ across_in s p b i [] j read place = tt
 across_in s p b i (c ∷ cs) j read place = (read j, place, across_in s p b i cs (j + 1) read place)
 
 -- rows one behind the other, from a place on
-pub rows_elsewhere : (s : Sizes) (at r n : ℕ) (f : ℕ → List Entry) → ((i : ℕ) → i < n → InRow s (at + i) (f i)) → ((i : ℕ) → i < n → at + i ≡ r → ⊥) → filter (is_in_row s r) (by_row n f) ≡ []
+pub rows_elsewhere : (s : Sizes) (at r n : ℕ) (f : ℕ → List Entry) → ((i : ℕ) → i < n → InRow s (at + i) (f i)) → ((i : ℕ) → i < n → at + i ≡ r → ⊥) → filter (is_in_row s r) (joined n f) ≡ []
 rows_elsewhere s at r zero f each other = refl
 rows_elsewhere s at r (suc n) f each other =
-    filter-append (is_in_row s r) (by_row n f) (f n)
+    filter-append (is_in_row s r) (joined n f) (f n)
     ∙ ap₂ (λ x y. x ++ y)
     (rows_elsewhere s at r n f (λ i h. each i (omega arith)) (λ i h. other i (omega arith)))
     (elsewhere s (at + n) r (f n) (other n (omega arith)) (each n (omega arith)))
@@ -44,12 +45,12 @@ pub no_more : (es : List Entry) → es ++ [] ≡ es
 no_more [] = refl
 no_more (e ∷ es) = ap (λ gs. e ∷ gs) (no_more es)
 
-pub rows_here : (s : Sizes) (at n : ℕ) (f : ℕ → List Entry) → ((i : ℕ) → i < n → InRow s (at + i) (f i)) → (j : ℕ) → j < n → filter (is_in_row s (at + j)) (by_row n f) ≡ f j
+pub rows_here : (s : Sizes) (at n : ℕ) (f : ℕ → List Entry) → ((i : ℕ) → i < n → InRow s (at + i) (f i)) → (j : ℕ) → j < n → filter (is_in_row s (at + j)) (joined n f) ≡ f j
 rows_here s at zero f each j h = absurd (omega arith)
 rows_here s at (suc n) f each j h =
-    filter-append (is_in_row s (at + j)) (by_row n f) (f n) ∙ by_place (λ below. rows_here s at n f (λ i h. each i (omega arith)) j below) (cases_lt j n)
+    filter-append (is_in_row s (at + j)) (joined n f) (f n) ∙ by_place (λ below. rows_here s at n f (λ i h. each i (omega arith)) j below) (cases_lt j n)
   where
-    by_place : (j < n → filter (is_in_row s (at + j)) (by_row n f) ≡ f j) → (j < n) ⊎ (n ≤ j) → filter (is_in_row s (at + j)) (by_row n f) ++ filter (is_in_row s (at + j)) (f n) ≡ f j
+    by_place : (j < n → filter (is_in_row s (at + j)) (joined n f) ≡ f j) → (j < n) ⊎ (n ≤ j) → filter (is_in_row s (at + j)) (joined n f) ++ filter (is_in_row s (at + j)) (f n) ≡ f j
     by_place before (inl below) =
         ap₂ (λ x y. x ++ y) (before below)
         (elsewhere s (at + n) (at + j) (f n) (λ same. omega (arith, same, below)) (each n (omega arith)))

@@ -1,6 +1,6 @@
 -- A run of a form without perturbation, brought to one scale, at which no powers of its denominator are left. What lies behind
 -- the last moment of interest is free.
-use Rattle.std.proofs.Common.{◌≡◌, ℕ, zero, suc, ◌+◌, ◌-◌, ◌*◌, ◌^◌, ◌<◌, ◌≤◌, Bool, true, false, cond, eqb, List, [], ◌∷◌, map, filter, All, refl, arith, sym, ap, ap₂, ◌∙◌}
+use Rattle.std.proofs.Common.{◌≡◌, ℕ, zero, suc, ◌+◌, ◌-◌, ◌*◌, ◌^◌, ◌<◌, ◌≤◌, Bool, true, false, cond, eqb, unsigned_abs, List, [], ◌∷◌, map, filter, All, refl, arith, sym, ap, ap₂, ◌∙◌}
 use Rattle.std.proofs.Math.IntN.{ℤ, pos, ◌+ℤ◌, ◌*ℤ◌}
 use Rattle.std.proofs.Math.Nat.{pow-succ'}
 use Rattle.std.proofs.lemmas.Int.{ints}
@@ -15,13 +15,15 @@ use Rattle.fx_eqs.specs.Expanded.{NetRead, NetTerm}
 use Rattle.fx_eqs.specs.Expanded.NetRead.{Now, Old, In}
 use Rattle.fx_net.specs.Rows.{ReadFits}
 use Rattle.fx_net.specs.Run.{IsRun}
-use Rattle.fx_sif.specs.Fits.{EntryFits, FormFits}
-use Rattle.fx_sif.specs.Form.{Form, rows}
+use Rattle.fx_sif.specs.Fits.{EntryFits, ImplicitFits}
+use Rattle.fx_sif.specs.Implicit.{Implicit, rows}
 use Rattle.fx_sif.specs.Rows.{row_place, is_read, term_of, is_in_row, net_row}
 use Rattle.fx_sif.specs.Runs.{read_value, terms_value}
 use Rattle.fx_sif.specs.SameOutputs.{net_alone}
+use Rattle.fx_eqs.specs.declared.limits.TheConstants.{PORTS}
 use Rattle.fx_sif.specs.declared.parts.Entry.{Entry}
 use Rattle.fx_sif.specs.declared.parts.Sizes.{Sizes}
+use Rattle.fx_sif.proofs.Kept.{is_zero-value}
 use Rattle.fx_sif.proofs.Summing.{reads_there, runs_are_sums}
 
 -- ---- the scale
@@ -29,6 +31,12 @@ use Rattle.fx_sif.proofs.Summing.{reads_there, runs_are_sums}
 -- a coefficient over q and g
 abbrev pub weight : ℕ → ℕ → Fraction → ℤ
 weight q g c = over q c *ℤ pos g
+
+-- a coefficient of value 0 has no weight
+pub no_weight : (q g : ℕ) (c : Fraction) → eqb (unsigned_abs c.num) 0 ≡ true → weight q g c ≡ pos 0
+no_weight q g c e =
+    let none : c.num ≡ pos 0 = is_zero-value c.num e in
+    rw none (omega (arith, ints))
 
 -- what row i of n at moment k is raised by
 abbrev pub raise : ℕ → ℕ → ℕ → ℕ → ℕ → ℕ
@@ -52,10 +60,10 @@ reads_sum w x u k (t ∷ ts) = w t.coef *ℤ read_of x u k t.from +ℤ reads_sum
 
 -- ---- one source
 
-powers : (q a b c : ℕ) → suc (a + b) ≡ c → q * (q ^ a * q ^ b) ≡ q ^ c
+pub powers : (q a b c : ℕ) → suc (a + b) ≡ c → q * (q ^ a * q ^ b) ≡ q ^ c
 powers q a b c e = ap (λ n. q * n) (sym (pow-add q a b)) ∙ sym (pow-succ' q (a + b)) ∙ ap (λ n. q ^ n) e
 
-raised : (y : ℤ) (q a r s e : ℕ) → q * (a * r) ≡ s → pos q *ℤ ((y *ℤ pos a) *ℤ pos (r * e)) ≡ y *ℤ pos (s * e)
+pub raised : (y : ℤ) (q a r s e : ℕ) → q * (a * r) ≡ s → pos q *ℤ ((y *ℤ pos a) *ℤ pos (r * e)) ≡ y *ℤ pos (s * e)
 raised y q a r s e h =
     same_value (mul (nat q) (mul (mul (int y) (nat a)) (nat (r * e)))) (mul (int y) (nat (q * (a * r) * e))) (omega arith)
     ∙ ap (λ m. y *ℤ pos (m * e)) h
@@ -109,7 +117,7 @@ lifted_terms last n q g e u z k r (t ∷ ts) fits l h =
     (lifted_read last n q e u z k r t.from (All-head (λ (t : NetTerm). ReadFits n 0 r t.from) t ts fits) l h)
     (lifted_terms last n q g e u z k r ts (All-tail (λ (t : NetTerm). ReadFits n 0 r t.from) t ts fits) l h)
 
-all_there : (s : Sizes) (r : ℕ) (es : List Entry) → s.u ≤ 4 → All (EntryFits s) es → All (λ (t : NetTerm). ReadFits (rows s) 0 r t.from) (net_row s es r)
+all_there : (s : Sizes) (r : ℕ) (es : List Entry) → s.u ≤ PORTS → All (EntryFits s) es → All (λ (t : NetTerm). ReadFits (rows s) 0 r t.from) (net_row s es r)
 all_there s r [] few fits = All-nil (λ (t : NetTerm). ReadFits (rows s) 0 r t.from)
 all_there s r (e ∷ es) few fits = by_test (is_in_row s r e) refl (all_there s r es few (All-tail (EntryFits s) e es fits))
   where
@@ -123,11 +131,11 @@ all_there s r (e ∷ es) few fits = by_test (is_in_row s r e) refl (all_there s 
     by_test false h rest = rest
 
 -- each row is the sum of its terms, at one scale
-abbrev pub RowsMeet : Form → ℕ → ℕ → ℕ → (ℕ → ℕ → ℤ) → (ℕ → ℕ → ℤ) → Type 0
+abbrev pub RowsMeet : Implicit → ℕ → ℕ → ℕ → (ℕ → ℕ → ℤ) → (ℕ → ℕ → ℤ) → Type 0
 RowsMeet f q g last x u =
     (k r : ℕ) → k ≤ last → r < rows f.sizes → pos (q * g) *ℤ x k r ≡ reads_sum (weight q g) x u k (net_row f.sizes f.entries r)
 
-pub rows_meet : (f : Form) → FormFits f → (q g last e : ℕ) (u z : ℕ → ℕ → ℤ) → IsRun (net_alone f) q u z (λ k i. pos 0) →
+pub rows_meet : (f : Implicit) → ImplicitFits f → (q g last e : ℕ) (u z : ℕ → ℕ → ℤ) → IsRun (net_alone f) q u z (λ k i. pos 0) →
     RowsMeet f q g last (lifted last (rows f.sizes) q e z) (lifted_input last (rows f.sizes) q e u)
 rows_meet f fits q g last e u z run k r h l =
     ap (λ v. pos (q * g) *ℤ (v *ℤ pos (raise last (rows f.sizes) q k r * e))) (runs_are_sums f fits q u z run k r l)

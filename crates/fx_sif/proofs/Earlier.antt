@@ -16,11 +16,6 @@ abbrev pub weigh : (Fraction → ℤ) → (ℕ → ℤ) → ℕ → ℕ → List
 weigh w f k l [] = pos 0
 weigh w f k l (c ∷ cs) = w c *ℤ ago f k l +ℤ weigh w f k (l + 1) cs
 
--- the moment before moment k
-abbrev pub one_before : (ℕ → ℤ) → ℕ → ℤ
-one_before f zero = pos 0
-one_before f (suc k) = f k
-
 pub ago_scaled : (f : ℕ → ℕ → ℤ) (c : ℤ) (k l j : ℕ) → ago (λ k. f k j *ℤ c) k l ≡ lagged f k l j *ℤ c
 ago_scaled f c k zero j = refl
 ago_scaled f c zero (suc l) j = zero_times c

@@ -1,15 +1,18 @@
 -- What the entries of a form add to one of its rows, part by part.
-use Rattle.std.proofs.Common.{◌≡◌, ℕ, ◌+◌, ◌<◌, Bool, true, false, cond, List, [], ◌∷◌, ◌++◌, map, filter, arith, sym, ap, ◌∙◌}
+use Rattle.std.proofs.Common.{◌≡◌, ℕ, ◌+◌, ◌<◌, Bool, true, false, cond, List, [], ◌∷◌, ◌++◌, map, filter, refl, arith, sym, ap, ap₂, ◌∙◌}
 use Rattle.std.proofs.Math.IntN.{ℤ, pos, ◌+ℤ◌, ◌*ℤ◌}
 use Rattle.std.proofs.lemmas.Int.{ints}
+use Rattle.fx_math.specs.Sums.{joined}
 use Rattle.fx_nums.specs.Fraction.{Fraction}
 use Rattle.fx_eqs.specs.Expanded.{NetTerm}
-use Rattle.fx_sif.specs.Rows.{term_of, is_in_row}
+use Rattle.fx_sif.specs.Entries.{across}
+use Rattle.fx_sif.specs.Rows.{net_read, on_the_right, term_of, is_in_row}
+use Rattle.fx_sif.specs.declared.parts.Block.{Block}
 use Rattle.fx_sif.specs.declared.parts.Entry.{Entry}
 use Rattle.fx_sif.specs.declared.parts.Sizes.{Sizes}
-use Rattle.fx_direct.specs.Entries.{by_row}
-use Rattle.fx_direct.proofs.Lifting.{read_of, reads_sum}
-use Rattle.fx_direct.proofs.Selecting.{InRow, here, elsewhere, rows_elsewhere, rows_here}
+use Rattle.fx_sif.proofs.LagSums.{column_sum}
+use Rattle.fx_sif.proofs.OneScale.{read_of, reads_sum}
+use Rattle.fx_sif.proofs.EntriesOfRow.{InRow, here, elsewhere, rows_elsewhere, rows_here}
 
 nothing_first : (a : ℤ) → a ≡ pos 0 +ℤ a
 nothing_first a = omega (arith, ints)
@@ -56,8 +59,15 @@ module _ (s : Sizes) (w : Fraction → ℤ) (x u : ℕ → ℕ → ℤ) (k : ℕ
   pub adds_none : (p r : ℕ) (es : List Entry) → (p ≡ r → ⊥) → InRow s p es → adds r es ≡ pos 0
   adds_none p r es other h = ap all_add (elsewhere s p r es other h)
 
-  pub adds_its_row : (at n : ℕ) (f : ℕ → List Entry) → ((i : ℕ) → i < n → InRow s (at + i) (f i)) → (j r : ℕ) → j < n → at + j ≡ r → adds r (by_row n f) ≡ all_add (f j)
-  adds_its_row at n f each j r h same = ap (λ p. adds p (by_row n f)) (sym same) ∙ ap all_add (rows_here s at n f each j h)
+  pub adds_its_row : (at n : ℕ) (f : ℕ → List Entry) → ((i : ℕ) → i < n → InRow s (at + i) (f i)) → (j r : ℕ) → j < n → at + j ≡ r → adds r (joined n f) ≡ all_add (f j)
+  adds_its_row at n f each j r h same = ap (λ p. adds p (joined n f)) (sym same) ∙ ap all_add (rows_here s at n f each j h)
 
-  pub adds_no_row : (at n r : ℕ) (f : ℕ → List Entry) → ((i : ℕ) → i < n → InRow s (at + i) (f i)) → ((i : ℕ) → i < n → at + i ≡ r → ⊥) → adds r (by_row n f) ≡ pos 0
+  pub adds_no_row : (at n r : ℕ) (f : ℕ → List Entry) → ((i : ℕ) → i < n → InRow s (at + i) (f i)) → ((i : ℕ) → i < n → at + i ≡ r → ⊥) → adds r (joined n f) ≡ pos 0
   adds_no_row at n r f each other = ap all_add (rows_elsewhere s at r n f each other)
+
+  -- coefficients across a row of a block that is read with its sign
+  pub all_across : (b : Block) (i j : ℕ) (cs : List Fraction) → ((c : Fraction) → on_the_right b c ≡ c) →
+      all_add (across b i j cs) ≡ column_sum w (λ j. read_of x u k (net_read s b j)) j cs
+  all_across b i j [] plus = refl
+  all_across b i j (c ∷ cs) plus =
+      ap₂ (λ a z. w a *ℤ read_of x u k (net_read s b j) +ℤ z) (plus c) (all_across b i (j + 1) cs plus)

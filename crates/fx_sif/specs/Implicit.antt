@@ -8,7 +8,7 @@ use Rattle.fx_sif.specs.declared.parts.Entry.{Entry}
 use Rattle.fx_sif.specs.declared.parts.Sizes.{Sizes}
 
 -- the counts, and the entries that were given, in their order
-pub record Form : Type 0 where
+pub record Implicit : Type 0 where
   pub sizes : Sizes
   pub entries : List Entry
 
@@ -27,5 +27,5 @@ given_or c block i j [] = c
 given_or c block i j (e ∷ es) = cond (is_at block i j e) e.coef (given_or c block i j es)
 
 -- the coefficient in row i and column j of a block
-abbrev pub entry_of : Form → Block → ℕ → ℕ → Fraction
+abbrev pub entry_of : Implicit → Block → ℕ → ℕ → Fraction
 entry_of f block i j = given_or (not_given f.sizes block i j) block i j f.entries

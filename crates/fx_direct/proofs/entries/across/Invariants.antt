@@ -1,9 +1,0 @@
-use Rattle.std.proofs.Common.{◌≡◌, ◌+◌, ◌++◌, drop}
-use Rattle.fx_direct.specs.Entries.{across}
-use Rattle.fx_direct.proofs.entries.across.Given as goal
-
-abbrev pub invariant-loop-coef : goal.invariant-loop-coef
-invariant-loop-coef l = record {
-  column : l.column ≡ l.first + l.coef-index;
-  reads : l.entries.items ++ across l.block 0 l.column (drop l.coef-index l.coefficients) ≡ l.fn.entries.items ++ across l.block 0 l.first l.coefficients;
-}
