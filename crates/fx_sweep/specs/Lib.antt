@@ -5,4 +5,5 @@ pub mod Range
 pub mod Totals
 pub mod Bounds
 pub mod Padding
+pub mod Ordered
 pub mod Laws

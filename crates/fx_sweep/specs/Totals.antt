@@ -1,7 +1,7 @@
 -- The total of a target: a bound of it from what was swept in m moments, for bounds of the inputs' words and of the rows.
 use Rattle.std.specs.Prelude.{ℕ, ℤ, pos, ◌+ℤ◌, ◌*ℤ◌, ◌*◌}
 use Rattle.fx_math.specs.Division.{ceil_div}
-use Rattle.fx_math.specs.Sums.{total, sum_below}
+use Rattle.fx_math.specs.Sums.{total}
 use Rattle.fx_eqs.specs.declared.limits.TheConstants.{PORTS}
 use Rattle.fx_nums.specs.Interval.{Interval}
 use Rattle.fx_net.specs.Net.{Net}

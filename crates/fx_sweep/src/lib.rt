@@ -1,8 +1,10 @@
 //! The sweep of a net backwards in time: how much each earlier word, rounding and bound can still matter for a target.
 #![tactic(auto)]
 
+mod laws;
 mod limits;
 mod target;
 
+pub use laws::{intervals_stay_ordered, targets_lie_between, totals_bound};
 pub use limits::{GREATEST_LENGTH, GREATEST_SHIFT, sweep_limits_are_these};
 pub use target::{Place, RangeAt, Target};

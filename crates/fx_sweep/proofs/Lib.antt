@@ -1,0 +1,13 @@
+pub mod Multiples
+pub mod Sides
+pub mod RowLaw
+pub mod Moments
+pub mod Ordered
+pub mod Inequalities
+pub mod BlockLaw
+pub mod Negated
+pub mod Starts
+pub mod OneSide
+pub mod TwoSides
+pub mod Bounded
+pub mod TotalLaw

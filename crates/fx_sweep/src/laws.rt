@@ -1,0 +1,27 @@
+ghost use Rattle.fx_sweep.specs.Laws.{TargetsLieBetween, TotalsBound};
+ghost use Rattle.fx_sweep.specs.Ordered.{IntervalsStayOrdered};
+
+use fx_net::runs_are_blocks;
+
+/// A law with nothing to run: the intervals of a sweep that begins in order stay in order.
+pub fn intervals_stay_ordered()
+    ensures { IntervalsStayOrdered }
+{}
+
+/// A law with nothing to run: at each moment of a run, with any perturbations that the classes of its rows allow, a target
+/// lies between the least and the greatest sum of the words of the moments that were swept, less and more what the
+/// roundings, what was cut off the weights, and what lies before these moments may add. For that the words of these
+/// moments and the rows of the moments before the last have to be within their bounds, and at the last moment itself those
+/// rows before a target row, or for a pair all.
+pub fn targets_lie_between()
+    ensures { TargetsLieBetween }
+{
+    runs_are_blocks();
+}
+
+/// A law with nothing to run: the magnitude of such a target is at most its total.
+pub fn totals_bound()
+    ensures { TotalsBound }
+{
+    targets_lie_between();
+}
