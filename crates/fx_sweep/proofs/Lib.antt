@@ -11,3 +11,6 @@ pub mod OneSide
 pub mod TwoSides
 pub mod Bounded
 pub mod TotalLaw
+pub mod Padded
+pub mod FirstRanges
+pub mod PaddedNumbers

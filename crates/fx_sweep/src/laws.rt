@@ -1,5 +1,6 @@
 ghost use Rattle.fx_sweep.specs.Laws.{TargetsLieBetween, TotalsBound};
 ghost use Rattle.fx_sweep.specs.Ordered.{IntervalsStayOrdered};
+ghost use Rattle.fx_sweep.specs.Padding.{EmptyRowsChangeNothing};
 
 use fx_net::runs_are_blocks;
 
@@ -25,3 +26,9 @@ pub fn totals_bound()
 {
     targets_lie_between();
 }
+
+/// A law with nothing to run: where empty rows stand behind a net, and no row of it reads them, its sweep has the same
+/// numbers as without them, and reaches the limit at the same place. So no number depends on the size of a net.
+pub fn empty_rows_change_nothing()
+    ensures { EmptyRowsChangeNothing }
+{}
