@@ -14,3 +14,4 @@ pub mod TotalLaw
 pub mod Padded
 pub mod FirstRanges
 pub mod PaddedNumbers
+pub mod OneRow

@@ -1,4 +1,4 @@
-ghost use Rattle.fx_sweep.specs.Laws.{TargetsLieBetween, TotalsBound};
+ghost use Rattle.fx_sweep.specs.Laws.{PairTargets, RowTargets, TargetsLieBetween, TotalsBound};
 ghost use Rattle.fx_sweep.specs.Ordered.{IntervalsStayOrdered};
 ghost use Rattle.fx_sweep.specs.Padding.{EmptyRowsChangeNothing};
 
@@ -7,6 +7,13 @@ use fx_net::runs_are_blocks;
 /// A law with nothing to run: the intervals of a sweep that begins in order stay in order.
 pub fn intervals_stay_ordered()
     ensures { IntervalsStayOrdered }
+{}
+
+/// A law with nothing to run: the value of a row target is 2^64 times the row's, that of a pair 2^64 times the code row's
+/// less 2^(64 + shift) times the original row's.
+pub fn targets_have_these_values()
+    ensures row { RowTargets }
+    ensures pair { PairTargets }
 {}
 
 /// A law with nothing to run: at each moment of a run, with any perturbations that the classes of its rows allow, a target

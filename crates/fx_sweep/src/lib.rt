@@ -6,7 +6,8 @@ mod limits;
 mod target;
 
 pub use laws::{
-    empty_rows_change_nothing, intervals_stay_ordered, targets_lie_between, totals_bound,
+    empty_rows_change_nothing, intervals_stay_ordered, targets_have_these_values,
+    targets_lie_between, totals_bound,
 };
 pub use limits::{GREATEST_LENGTH, GREATEST_SHIFT, sweep_limits_are_these};
 pub use target::{Place, RangeAt, Target};
