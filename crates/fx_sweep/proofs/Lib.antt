@@ -15,3 +15,4 @@ pub mod Padded
 pub mod FirstRanges
 pub mod PaddedNumbers
 pub mod OneRow
+pub mod AllTime

@@ -7,3 +7,4 @@ pub mod Bounds
 pub mod Padding
 pub mod Ordered
 pub mod Laws
+pub mod AllTime

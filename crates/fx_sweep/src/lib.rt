@@ -1,10 +1,12 @@
 //! The sweep of a net backwards in time: how much each earlier word, rounding and bound can still matter for a target.
 #![tactic(auto)]
 
+mod all_time;
 mod laws;
 mod limits;
 mod target;
 
+pub use all_time::bounds_hold_for_all_time;
 pub use laws::{
     empty_rows_change_nothing, intervals_stay_ordered, targets_have_these_values,
     targets_lie_between, totals_bound,
