@@ -237,7 +237,7 @@ def monic(lists: list[list[Coefficient]], a0: Coefficient, divides: bool) -> lis
 
 
 def quotient(number: Coefficient, divisor: Coefficient) -> Coefficient:
-    """The quotient, rounded to a double where one of the two is a double, else to 17 digits. What is rounded is said."""
+    """The quotient, rounded to a double where one of the two is one, else to 17 digits. What is rounded is told."""
     value = number.value / divisor.value
     if abs(value) >= MAGNITUDE:
         raise Refused(f"{number.name} becomes 2^24 = {MAGNITUDE} or more in magnitude")
