@@ -56,7 +56,7 @@ rest_within d a v x h =
 
 -- ---- widths, and perturbations
 
-longer : (w : ℤ) (x y : ℕ) → pos 0 ≤ℤ w → x ≤ y → (w *ℤ pos x) ≤ℤ (w *ℤ pos y)
+pub longer : (w : ℤ) (x y : ℕ) → pos 0 ≤ℤ w → x ≤ y → (w *ℤ pos x) ≤ℤ (w *ℤ pos y)
 longer (pos n) x y h l = omega (arith, ints, mul-le-mul_left n l)
 longer (negsuc n) x y h l = absurd (omega (arith, ints))
 

@@ -16,3 +16,4 @@ pub mod FirstRanges
 pub mod PaddedNumbers
 pub mod OneRow
 pub mod AllTime
+pub mod Growth

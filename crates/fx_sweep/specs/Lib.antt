@@ -6,5 +6,6 @@ pub mod Totals
 pub mod Bounds
 pub mod Padding
 pub mod Ordered
+pub mod Growth
 pub mod Laws
 pub mod AllTime

@@ -1,3 +1,4 @@
+ghost use Rattle.fx_sweep.specs.Growth.{NoTotalIsNegative, TotalsGrow};
 ghost use Rattle.fx_sweep.specs.Laws.{PairTargets, RowTargets, TargetsLieBetween, TotalsBound};
 ghost use Rattle.fx_sweep.specs.Ordered.{IntervalsStayOrdered};
 ghost use Rattle.fx_sweep.specs.Padding.{EmptyRowsChangeNothing};
@@ -33,6 +34,12 @@ pub fn totals_bound()
 {
     targets_lie_between();
 }
+
+/// A law with nothing to run: with greater bounds the total of a target is not less, and it is never negative.
+pub fn totals_grow()
+    ensures grow { TotalsGrow }
+    ensures none { NoTotalIsNegative }
+{}
 
 /// A law with nothing to run: where empty rows stand behind a net, and no row of it reads them, its sweep has the same
 /// numbers as without them, and reaches the limit at the same place. So no number depends on the size of a net.

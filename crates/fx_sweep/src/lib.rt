@@ -9,7 +9,7 @@ mod target;
 pub use all_time::bounds_hold_for_all_time;
 pub use laws::{
     empty_rows_change_nothing, intervals_stay_ordered, targets_have_these_values,
-    targets_lie_between, totals_bound,
+    targets_lie_between, totals_bound, totals_grow,
 };
 pub use limits::{GREATEST_LENGTH, GREATEST_SHIFT, sweep_limits_are_these};
 pub use target::{Place, RangeAt, Target};
