@@ -157,14 +157,14 @@ def decimal(name: str, given: str) -> tuple[str, Fraction]:
             raise Refused(f"{name} is NaN, which is no number")
         if word in ("inf", "infinity"):
             raise Refused(f"{name} is infinite")
-        raise Refused(f"{name} is {given!r}, which is no decimal number")
+        raise Refused(f"{name} is {shown(repr(given))}, which is no decimal number")
     return text, value_of(text)
 
 
 def kind_of(given: object) -> str:
     if isinstance(given, list):
         return "a list"
-    return "an object" if isinstance(given, dict) else json.dumps(given)
+    return "an object" if isinstance(given, dict) else shown(json.dumps(given))
 
 
 def written(number: Coefficient) -> str:
@@ -286,8 +286,8 @@ def sections(given: dict, options: argparse.Namespace) -> Shape:
 
 
 def with_gain_spread(table: list[list[Coefficient]]) -> list[list[Coefficient]]:
-    """The sections with numerators times powers of two, whose product is 1. From the input to each section but the last
-    the sum of the magnitudes of the impulse response is then above 1/2 and at most 1."""
+    """The sections with numerators times powers of two, whose product is 1. The peak gain from the input to each section
+    but the last, the sum of the magnitudes of its impulse response, is then above 1/2 and at most 1."""
     signal, before, powers = [1.0] + [0.0] * (RESPONSE - 1), 0, []
     for place, row in enumerate(table[:-1]):
         signal = response([nearly(number) for number in row], signal)
@@ -494,7 +494,7 @@ def list_of(name: str, text: str, nested: bool) -> list:
         return from_json(name, text)
     rows = [row.replace(",", " ").split() for row in text.split(";")]
     if nested:
-        return rows[:-1] if len(rows) > 1 and not rows[-1] else rows
+        return rows if rows[-1] or len(rows) == 1 else rows[:-1]
     if len(rows) > 1:
         raise Refused(f"{name} is one list, and has no rows")
     return rows[0]
@@ -517,20 +517,34 @@ def without_repeats(pairs: list[tuple[str, object]]) -> dict:
 def from_options(options: argparse.Namespace) -> dict:
     """The lists of coefficients that the options give."""
     given = {}
-    for key, words, nested in [("b", options.b, False), ("a", options.a, False), ("sections", options.sos, True)]:
-        if words is not None:
-            given[key] = list_of(f"--{'sos' if nested else key}", " ".join(words), nested)
-    for keys, words, nested in [("ABCD", options.ss, True), ("kv", options.lattice, False)]:
-        for key, word in zip(keys, words or []):
+    for key in ["b", "a"]:
+        words = once(f"--{key}", getattr(options, key))
+        if words:
+            given[key] = list_of(f"--{key}", " ".join(words), False)
+    if options.sos:
+        given["sections"] = list_of("--sos", ";".join(" ".join(words).rstrip(" ;") for words in options.sos), True)
+    for name, keys, nested in [("ss", "ABCD", True), ("lattice", "kv", False)]:
+        for key, word in zip(keys, once(f"--{name}", getattr(options, name))):
             given[key] = list_of(key, word, nested)
     return given
 
 
+def once(name: str, given: list[list[str]] | None) -> list[str]:
+    """The words of an option that may stand once."""
+    if given and len(given) > 1:
+        raise Refused(f"{name} stands twice")
+    return given[0] if given else []
+
+
 def from_input(source) -> dict:
     """The lists of coefficients of the JSON object on standard input."""
-    if source.isatty():
+    if source is None or source.isatty():
         raise Refused("there are no coefficients: give --b, --sos, --ss or --lattice, or JSON on standard input")
-    given = from_json("standard input", source.buffer.read())
+    try:
+        text = source.buffer.read()
+    except OSError as reason:
+        raise Refused(f"standard input cannot be read: {reason.strerror}") from None
+    given = from_json("standard input", text)
     if not isinstance(given, dict):
         raise Refused("the JSON on standard input has to be an object, such as {\"b\": [1], \"a\": [1]}")
     if "sos" in given and "sections" not in given:
@@ -543,20 +557,23 @@ def option_parser() -> argparse.ArgumentParser:
         prog="filter_file.py", description=__doc__, epilog=HELP, allow_abbrev=False,
         formatter_class=argparse.RawDescriptionHelpFormatter)
     lists = parser.add_argument_group("coefficients")
-    lists.add_argument("--b", nargs="+", metavar="B", help=f"numerator of a transfer function, order up to {ORDER}")
-    lists.add_argument("--a", nargs="+", metavar="A", help="its denominator from a0 = 1 on; 1 where it is absent")
-    lists.add_argument("--sos", nargs="+", metavar="ROWS", help=f"up to {SECTIONS} sections b0 b1 b2 a0 a1 a2")
-    lists.add_argument("--ss", nargs=4, metavar=("A", "B", "C", "D"),
+    lists.add_argument("--b", nargs="+", action="append", metavar="B",
+                       help=f"numerator of a transfer function, order up to {ORDER}")
+    lists.add_argument("--a", nargs="+", action="append", metavar="A",
+                       help="its denominator from a0 = 1 on; 1 where it is absent")
+    lists.add_argument("--sos", nargs="+", action="append", metavar="ROWS",
+                       help=f"up to {SECTIONS} sections b0 b1 b2 a0 a1 a2; it may stand once for each section")
+    lists.add_argument("--ss", nargs=4, action="append", metavar=("A", "B", "C", "D"),
                        help=f"matrices of a state space, up to {STATES} states, {PORTS} inputs, {PORTS} outputs")
-    lists.add_argument("--lattice", nargs=2, metavar=("K", "V"),
+    lists.add_argument("--lattice", nargs=2, action="append", metavar=("K", "V"),
                        help=f"up to {LATTICE} reflection coefficients, and one tap more")
     lists.add_argument("--normalise", action="store_true",
                        help="divide by an a0 that is not 1: exactly, then rounded to the nearest double, or to "
                        "17 digits where no double is divided")
     lists.add_argument("--spread-gain", action="store_true",
-                       help="multiply the numerators of sections by powers of two, whose product is 1, so that no "
-                       "section but the last amplifies the input, nor takes more than half of it: scipy puts the gain "
-                       "of all sections into the first")
+                       help="multiply the numerators of sections by powers of two, whose product is 1, so that the "
+                       "peak gain up to each section but the last is above 1/2 and at most 1; scipy puts the gain of "
+                       "all sections into the first")
     add_words(parser.add_argument_group("words of inputs and outputs; one value for all, or one for each"))
     add_settings(parser.add_argument_group("for the making of code; what is absent is left to fixif"))
     return parser

@@ -202,6 +202,8 @@ class Forms(ToolTest):
         for words in [["1 2 1 1 -0.5 0.25; 1 0 0 1 0.1 0;"], ["1 2 1 1 -0.5 0.25;", "1,0,0,1,0.1,0"],
                       ["[[1, 2, 1, 1, -0.5, 0.25], [1, 0, 0, 1, 0.1, 0]]"]]:
             self.assertEqual(self.quiet(["--sos", *words] + WORDS, nothing)["sections"], rows)
+        words = ["--sos", "1", "2", "1", "1", "-0.5", "0.25", "--sos", "1 0 0 1 0.1 0;"]
+        self.assertEqual(self.quiet(words + WORDS, nothing)["sections"], rows)
         table = self.quiet(["--ss", "0.9 0.1; 0 0.8", "0; 1", "-1,0", "-.5"] + WORDS, nothing)
         self.assertEqual([table["C"], table["D"]], [[["-1", "0"]], [["-.5"]]])
         self.assertEqual(self.quiet(["--lattice", "-0.5", "1 -2"] + WORDS, nothing)["v"], ["1", "-2"])
@@ -461,6 +463,18 @@ class Refusals(ToolTest):
         self.refused("stands twice", WORDS, '{"b": [1], "b": [2], "a": [1]}')
         self.refused("is no JSON", ["--b", "[1,"] + WORDS)
         self.refused("--b is one list, and has no rows", ["--b", "1;2"] + WORDS)
+
+    def test_options_that_stand_twice(self):
+        for name, *words in [("--b", "1"), ("--a", "1"), ("--ss", "0", "0", "0", "0"), ("--lattice", "", "1")]:
+            self.refused(f"{name} stands twice", [name, *words] * 2 + WORDS)
+
+    def test_input_that_is_not_there(self):
+        with mock.patch.object(sys, "stdin", None), contextlib.redirect_stderr(io.StringIO()) as said:
+            self.assertEqual(filter_file.main(WORDS), 1)
+        self.assertIn("there are no coefficients", said.getvalue())
+        with open(os.devnull, "rb") as nothing:
+            ran = subprocess.run([sys.executable, str(TOOL), *WORDS], stdin=nothing, capture_output=True, check=False)
+        self.assertEqual((ran.returncode, ran.stdout), (1, b""))
 
 
 def butterworth(order: int, corner: float) -> dict:
