@@ -127,8 +127,8 @@ s^2 / (s^2 + sqrt(2) s + 1) with s = (z - 1) / ((z + 1) tan(pi 0.5 / 500)), then
 of order 4 as two sections 1 / (s^2 + 2 cos(pi m / 8) s + 1), m = 1 and 3, with
 s = (z - 1) / ((z + 1) tan(pi 40 / 500)).""",
     "yaw_damper": """\
-Yaw damper of an aircraft at 100 Hz: a washout of 2 s, 2 s / (2 s + 1) with s = 200 (z - 1) / (z + 1),
-lets steady turns pass unopposed; then a notch at a structural mode of 6.5 Hz,
+Yaw damper of an aircraft at 100 Hz: a washout with a time constant of 2 seconds, 2 s / (2 s + 1) with
+s = 200 (z - 1) / (z + 1), lets steady turns pass; then a notch at a structural mode of 6.5 Hz,
 (s^2 + 0.2 s + 1) / (s^2 + 1.2 s + 1) with s = (z - 1) / ((z + 1) tan(pi 6.5 / 100)).
 The yaw rate counts in steps of 2^-6 degrees a second, the output in steps of 2^-8.""",
     "pid": """\

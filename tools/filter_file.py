@@ -286,8 +286,8 @@ def sections(given: dict, options: argparse.Namespace) -> Shape:
 
 
 def with_gain_spread(table: list[list[Coefficient]]) -> list[list[Coefficient]]:
-    """The sections with numerators times powers of two, whose product is 1. The peak gain from the input to each section
-    but the last, the sum of the magnitudes of its impulse response, is then above 1/2 and at most 1."""
+    """The sections with numerators times powers of two, whose product is 1. The peak gain from the input to each
+    section but the last, the sum of the magnitudes of its impulse response, is then above 1/2 and at most 1."""
     signal, before, powers = [1.0] + [0.0] * (RESPONSE - 1), 0, []
     for place, row in enumerate(table[:-1]):
         signal = response([nearly(number) for number in row], signal)
