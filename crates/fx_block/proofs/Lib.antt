@@ -1,0 +1,6 @@
+mod Wrapping
+mod JointRun
+mod JointNet
+mod AllTime
+mod Pairs
+mod Bounded

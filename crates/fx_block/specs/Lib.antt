@@ -1,0 +1,5 @@
+pub mod Ideal
+pub mod Joint
+pub mod Near
+pub mod Laws
+pub mod Least

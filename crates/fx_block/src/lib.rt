@@ -1,0 +1,12 @@
+//! When a program does what a filter asks for, on all inputs and for all time: what a certificate has to meet, and why that
+//! suffices.
+#![tactic(auto)]
+
+mod inequality;
+mod laws;
+
+pub use inequality::Inequality;
+pub use laws::{
+    bounded_rows_are_exact, bounds_make_near, ideal_values_run, joint_nets_hold_both,
+    joint_values_are_exact, totals_serve_for_all_time, words_are_ideal,
+};
