@@ -64,6 +64,10 @@ module _ (base : Block → ℕ) where
   ascends_lower s lo mid hi [] h r = omega (arith, h, r)
   ascends_lower s lo mid hi (e ∷ es) h r = ((let below : mid ≤ number_of e = r.0 in omega arith), r.1, r.2)
 
+  pub ascends_higher : (s : Sizes) (lo mid hi : ℕ) (es : List Entry) → mid ≤ hi → Ascends s lo mid es → Ascends s lo hi es
+  ascends_higher s lo mid hi [] h r = omega (arith, h, r)
+  ascends_higher s lo mid hi (e ∷ es) h r = (r.0, r.1, ascends_higher s (number_of e + 1) mid hi es h r.2)
+
   pub ascends_append : (s : Sizes) (lo mid hi : ℕ) (es gs : List Entry) → Ascends s lo mid es → Ascends s mid hi gs → Ascends s lo hi (es ++ gs)
   ascends_append s lo mid hi [] gs h k = ascends_lower s lo mid hi gs h k
   ascends_append s lo mid hi (e ∷ es) gs h k = (h.0, h.1, ascends_append s (number_of e + 1) mid hi es gs h.2 k)

@@ -19,5 +19,6 @@ pub mod Placing
 pub mod Recursion
 pub mod RowSums
 pub mod Summing
+pub mod SystemsFit
 pub mod Uniqueness
 mod Widest

@@ -1,0 +1,3 @@
+mod NeverRefused
+mod Outputs
+mod Rows
