@@ -17,3 +17,4 @@ pub mod PaddedNumbers
 pub mod OneRow
 pub mod AllTime
 pub mod Growth
+mod Examples
