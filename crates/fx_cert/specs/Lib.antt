@@ -1,0 +1,6 @@
+pub mod Certificate
+pub mod Inside
+pub mod Laws
+pub mod Lines
+pub mod Opened
+pub mod Reading
