@@ -40,8 +40,8 @@ has_no_leading_zero (c ∷ d ∷ cs) = not (c == 48)
 unfoldable pub number_within : ℕ → ℕ → List ℕ → Option ℕ
 number_within low high digits =
     if has_no_leading_zero digits
-        then option_and_then (λ v. if nat_lt v low then None else Some v) (value_within high 0 digits)
-        else None
+    then option_and_then (λ v. if nat_lt v low then None else Some v) (value_within high 0 digits)
+    else None
 
 -- ---- one line
 
