@@ -1,0 +1,6 @@
+mod FirstForm
+mod NeverRefused
+mod Rows
+mod SectionSums
+mod SectionsMeet
+mod Transposed

@@ -1,0 +1,2 @@
+pub mod Cascades
+pub mod Sections
