@@ -1,0 +1,5 @@
+mod Cutting
+mod Descending
+mod Enclosing
+mod Gathering
+mod Levels

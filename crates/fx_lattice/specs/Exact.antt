@@ -1,0 +1,38 @@
+-- Step-down over exact values, and what the enclosures of a lattice enclose.
+use Rattle.std.specs.Prelude.{ℕ, ◌-◌, ◌<◌, ◌≤◌, pos, List}
+use Rattle.fx_math.specs.Ratio.{Ratio, SameValue}
+use Rattle.fx_nums.specs.Enclosing.{Encloses}
+use Rattle.fx_nums.specs.Fraction.{Fraction}
+use Rattle.fx_eqs.specs.Values.{difference_of, product_of, value_of, whole}
+use Rattle.fx_lattice.specs.Lattice.{Lattice, reflection, tap}
+use Rattle.fx_lattice.specs.StepDown.{coefficient, greater_order}
+
+-- 1 - k^2
+abbrev pub one_less_square : Ratio → Ratio
+one_less_square k = difference_of (whole (pos 1)) (product_of k k)
+
+-- Coefficient j of order i is p i j in the denominator and q i j in the numerator; the denominator's first is 1. Of order n
+-- they are those of the transfer function. k_i is the denominator's last and v_i the numerator's last of order i, and
+-- p_(i-1)_j (1 - k_i^2) = p_i_j - k_i p_i_(i-j) and q_(i-1)_j = q_i_j - v_i p_i_(i-j).
+pub record MeetsStepDown (b a : List Fraction) (n : ℕ) (p q : ℕ → ℕ → Ratio) (k v : ℕ → Ratio) : Type 0 where
+  pub p_over : (i j : ℕ) → 0 < (p i j).den
+  pub q_over : (i j : ℕ) → 0 < (q i j).den
+  pub k_over : (i : ℕ) → 0 < (k i).den
+  pub v_over : (i : ℕ) → 0 < (v i).den
+  pub p_highest : (j : ℕ) → 1 ≤ j → j ≤ n → SameValue (p n j) (value_of (coefficient a j))
+  pub q_highest : (j : ℕ) → j ≤ n → SameValue (q n j) (value_of (coefficient b j))
+  pub k_last : (i : ℕ) → 1 ≤ i → i ≤ n → SameValue (k i) (p i i)
+  pub v_last : (i : ℕ) → i ≤ n → SameValue (v i) (q i i)
+  pub p_lower : (i j : ℕ) → 1 ≤ j → j < i → i ≤ n → SameValue (product_of (p (i - 1) j) (one_less_square (k i))) (difference_of (p i j) (product_of (k i) (p i (i - j))))
+  pub q_lower : (i j : ℕ) → j < i → i ≤ n → SameValue (q (i - 1) j) (difference_of (q i j) (product_of (v i) (p i (i - j))))
+
+-- each value lies in its interval
+pub record EnclosesLattice (n : ℕ) (l : Lattice) (k v : ℕ → Ratio) : Type 0 where
+  pub reflections : (i : ℕ) → 1 ≤ i → i ≤ n → Encloses (reflection l i) (k i)
+  pub taps : (i : ℕ) → i ≤ n → Encloses (tap l i) (v i)
+
+-- whatever values meet step-down exactly, the lattice encloses them
+abbrev pub EnclosesExact : List Fraction → List Fraction → Lattice → Type 0
+EnclosesExact b a l =
+    let n = greater_order b a in
+    (p q : ℕ → ℕ → Ratio) (k v : ℕ → Ratio) → MeetsStepDown b a n p q k v → EnclosesLattice n l k v

@@ -1,0 +1,4 @@
+pub mod Exact
+pub mod Lattice
+pub mod Operations
+pub mod StepDown
