@@ -1,5 +1,13 @@
 mod Cutting
 mod Descending
 mod Enclosing
+mod EquationRows
+mod EquationSums
+mod FormRows
 mod Gathering
+mod KeepsOutputs
+mod Ladders
 mod Levels
+mod NeverRefused
+mod Rows
+mod SystemsFit
