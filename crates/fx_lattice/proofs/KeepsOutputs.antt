@@ -51,8 +51,8 @@ taps_same w (suc m) v x y u k long same =
     ∙ ap (λ j. column_sum w (λ j. x k j) j v) at
     ∙ moved_sum w (λ j. x k j) (λ j. ago (sequence y u (backward n j)) k 0) m (n + 1) 0 v (omega arith)
     (λ i h.
-        let here : m + i ≡ n - 1 + i = omega arith in
-        same (m + i) (omega arith) ∙ ap (λ r. y k r) here ∙ sym (ap (λ from. sequence y u from k) (backward_row_is n i (omega arith))))
+    let here : m + i ≡ n - 1 + i = omega arith in
+    same (m + i) (omega arith) ∙ ap (λ r. y k r) here ∙ sym (ap (λ from. sequence y u from k) (backward_row_is n i (omega arith))))
 
 -- ---- denominators
 

@@ -13,6 +13,7 @@ use Rattle.fx_nums.specs.Fraction.{Fraction, den_value}
 use Rattle.fx_nums.specs.Interval.{Interval, point}
 use Rattle.fx_nums.specs.declared.fraction.Den.{Den}
 use Rattle.fx_nums.specs.declared.fraction.Den.TheVariants.{Two, Ten}
+use Rattle.fx_eqs.specs.declared.limits.TheConstants.{REFLECTIONS}
 use Rattle.fx_eqs.specs.Values.{difference_of, product_of, value_of, whole}
 use Rattle.fx_lattice.specs.Exact.{EnclosesExact, EnclosesLattice, MeetsStepDown, one_less_square}
 use Rattle.fx_lattice.specs.Lattice.{Lattice, LatticeFits, at, reflection, tap}
@@ -265,7 +266,7 @@ step_down_encloses b a l h p q k v meets =
 pub step_down_sizes : (b a : List Fraction) (l : Lattice) → step_down b a ≡ Ok l → HasSizes (greater_order b a) l
 step_down_sizes b a l h = let n = greater_order b a in sizes_of n (enclosures a 1 n) (enclosures b 0 (n + 1)) l h
 
-pub step_down_fits : (b a : List Fraction) (l : Lattice) → greater_order b a ≤ 11 → step_down b a ≡ Ok l → LatticeFits l
+pub step_down_fits : (b a : List Fraction) (l : Lattice) → greater_order b a ≤ REFLECTIONS → step_down b a ≡ Ok l → LatticeFits l
 step_down_fits b a l few h =
     let sizes = step_down_sizes b a l h in
     record { taps = let e = sizes.reflections in let f = sizes.taps in omega arith; few = rw sizes.reflections few }

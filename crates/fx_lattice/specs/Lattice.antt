@@ -2,16 +2,17 @@
 use Rattle.std.specs.Prelude.{◌≡◌, ℕ, suc, ◌+◌, ◌-◌, ◌/◌, ◌≤◌, ◌<ℤ◌, ◌^◌, ℤ, pos, negsuc, neg_ℤ, List, length, slice_index_or}
 use Rattle.fx_nums.specs.Interval.{Interval, point}
 use Rattle.fx_nums.specs.declared.limits.TheConstants.{SCALE_BITS}
+use Rattle.fx_eqs.specs.declared.limits.TheConstants.{REFLECTIONS}
 
 -- k_1 to k_N and v_0 to v_N
 pub record Lattice : Type 0 where
   pub k : List Interval
   pub v : List Interval
 
--- N is at most 11
+-- one tap more than reflection coefficients
 pub record LatticeFits (l : Lattice) : Type 0 where
   pub taps : length l.v ≡ length l.k + 1
-  pub few : length l.k ≤ 11
+  pub few : length l.k ≤ REFLECTIONS
 
 -- the number at a place; 0 where there is none
 abbrev pub at : List Interval → ℕ → Interval

@@ -3,6 +3,7 @@
 #![tactic(auto)]
 
 mod laws;
+mod limits;
 mod lowering;
 mod operands;
 mod refusal;
@@ -12,6 +13,7 @@ mod structure;
 mod tests;
 
 pub use laws::{ladder_is_never_refused, ladder_keeps_the_outputs};
+pub use limits::{REFLECTION_BITS, TAP_BITS, lattice_limits_are_these};
 pub use lowering::step_down;
 pub use refusal::Step;
 pub use rungs::Ladder;

@@ -9,7 +9,8 @@ ghost use Rattle.fx_lattice.specs.StepDown.{behind, coefficient, down, enclosed,
 use crate::operands::{Operand, Reflection, one};
 use crate::refusal::Step;
 use crate::rungs::Ladder;
-use fx_nums::{Frac, Iv};
+use fx_eqs::REFLECTIONS;
+use fx_nums::Frac;
 use std::alloc::{AllocError, Global};
 
 // Coefficient `j` of a list, enclosed; 0 where it has none.
@@ -29,7 +30,7 @@ fn enclosures(
     first: usize,
     count: usize,
 ) -> Result<Vec<Operand>, AllocError>
-    requires { first + count ≤ 100 }
+    requires { first + count ≤ REFLECTIONS + 1 }
     ensures { IfOk result (λ v. v.items ≡ enclosures coefficients.now first count) }
 {
     let mut intervals = Vec::new(alloc);
@@ -155,7 +156,7 @@ impl Rungs {
 
 // From order `i` down to 0.
 fn down(alloc: Global, i: usize, a: &[Operand], b: &[Operand]) -> Result<Rungs, Step>
-    requires { i ≤ 11 }
+    requires { i ≤ REFLECTIONS }
     ensures { Gives is_memory (λ r. record { k = r.k.items; v = r.v.items }) result (down i a.now b.now) }
 {
     if i == 0 {
@@ -177,8 +178,8 @@ fn down(alloc: Global, i: usize, a: &[Operand], b: &[Operand]) -> Result<Rungs, 
     Ok(rungs)
 }
 
-/// Step-down: the lattice with the transfer function of numerator `b` and denominator `a`, of 1 to 12 coefficients each. The
-/// denominator's first stands for 1 and is not read. Missing coefficients are 0.
+/// Step-down: the lattice with the transfer function of numerator `b` and denominator `a`, of 1 to `REFLECTIONS` + 1 coefficients
+/// each. The denominator's first stands for 1 and is not read. Missing coefficients are 0.
 ///
 /// From the greater order down to 1, the reflection coefficient `k` of order `i` is the denominator's last coefficient and the
 /// tap `v` the numerator's. The next denominator is `(a_j - k a_(i-j)) / (1 - k^2)`, and the next numerator is
@@ -188,9 +189,9 @@ fn down(alloc: Global, i: usize, a: &[Operand], b: &[Operand]) -> Result<Rungs, 
 /// then `Range` where an enclosure of this order leaves 88 bits or a divisor may be 0.
 pub fn step_down(alloc: Global, b: &[Frac], a: &[Frac]) -> Result<Ladder, Step>
     requires numerator_low { 1 ≤ length b.now }
-    requires numerator_high { length b.now ≤ 12 }
+    requires numerator_high { length b.now ≤ REFLECTIONS + 1 }
     requires denominator_low { 1 ≤ length a.now }
-    requires denominator_high { length a.now ≤ 12 }
+    requires denominator_high { length a.now ≤ REFLECTIONS + 1 }
     ensures exact { Gives is_memory (λ l. l) result (step_down b.now a.now) }
     ensures order { IfOk result (λ l. length l.k ≡ greater_order b.now a.now) }
     ensures encloses { IfOk result (λ l. EnclosesExact b.now a.now l) }

@@ -1,15 +1,16 @@
-ghost use Rattle.std.specs.Prelude.{◌≡◌, ◌≤◌, ◌<◌, ◌+◌, ◌*◌, ◌/◌, ◌^◌, length, pos, unsigned_abs};
+ghost use Rattle.std.specs.Prelude.{◌≡◌, ◌≤◌, ◌<◌, ◌+◌, ◌-◌, ◌*◌, ◌/◌, ◌^◌, length, pos, unsigned_abs};
 ghost use Rattle.fx_nums.specs.Fraction.{FractionFits};
 ghost use Rattle.fx_nums.specs.declared.fraction.Den.TheVariants.{Two};
 ghost use Rattle.fx_nums.specs.Interval.{IntervalFits};
 ghost use Rattle.fx_lattice.specs.Lattice.{IsBelowOne, LatticeFits, cut, reflection, tap};
 
+use crate::limits::{REFLECTION_BITS, TAP_BITS};
 use crate::operands::{Operand, Reflection};
-use fx_nums::{Den, Frac, Iv, OPERAND_BITS};
+use fx_nums::{Den, Frac, Iv, NUMERATOR_BITS, OPERAND_BITS, SCALE_BITS};
 use std::marker::Model;
 
 /// The lattice of a transfer function: enclosures of its reflection coefficients, N of them from 1 on, and of its N + 1 taps
-/// from 0 on. N is at most 11.
+/// from 0 on. N is at most `REFLECTIONS` of fx_eqs.
 #[derive(Drop)]
 pub struct Ladder {
     k: Vec<Reflection>,
@@ -29,10 +30,10 @@ impl Model for Ladder {
 // A magnitude divided by 2^bits and rounded down.
 #[tactic(auto, using(crate::proofs::Cutting::quotient_below))]
 fn shifted(magnitude: u128, bits: u32) -> i64
-    requires bits { bits ≤ 26 }
-    requires range { magnitude < 2 ^ 62 * 2 ^ bits }
+    requires bits { bits ≤ SCALE_BITS }
+    requires range { magnitude < 2 ^ NUMERATOR_BITS * 2 ^ bits }
     ensures value { result ≡ pos (magnitude / 2 ^ bits) }
-    ensures bound { magnitude / 2 ^ bits < 2 ^ 62 }
+    ensures bound { magnitude / 2 ^ bits < 2 ^ NUMERATOR_BITS }
 {
     (magnitude >> bits) as i64
 }
@@ -40,10 +41,10 @@ fn shifted(magnitude: u128, bits: u32) -> i64
 // A number divided by 2^bits and cut towards zero.
 #[tactic(auto, using(crate::proofs::Cutting::cut_negative, crate::proofs::Cutting::cut_positive))]
 fn cut(z: i128, bits: u32) -> i64
-    requires bits { bits ≤ 26 }
-    requires range { unsigned_abs z < 2 ^ 62 * 2 ^ bits }
+    requires bits { bits ≤ SCALE_BITS }
+    requires range { unsigned_abs z < 2 ^ NUMERATOR_BITS * 2 ^ bits }
     ensures value { result ≡ cut z (2 ^ bits) }
-    ensures bound { unsigned_abs result < 2 ^ 62 }
+    ensures bound { unsigned_abs result < 2 ^ NUMERATOR_BITS }
 {
     let magnitude = shifted(z.unsigned_abs(), bits);
     if z < 0 { -magnitude } else { magnitude }
@@ -69,7 +70,7 @@ impl Ladder {
         Ladder { k, v }
     }
 
-    /// How many reflection coefficients there are: 0 to 11. There is one tap more.
+    /// How many reflection coefficients there are: 0 to `REFLECTIONS` of fx_eqs. There is one tap more.
     pub fn order(&self) -> usize
         ensures value { result ≡ length self.now.k }
         ensures fits { LatticeFits self.now }
@@ -91,9 +92,10 @@ impl Ladder {
     pub fn k_frac(&self, i: usize) -> Frac
         requires low { 1 ≤ i }
         requires high { i ≤ length self.now.k }
-        ensures { result ≡ record { num = cut (reflection self.now i).lo 4; den = Two 62 } }
+        ensures { result ≡ record { num = cut (reflection self.now i).lo (2 ^ (SCALE_BITS - REFLECTION_BITS)); den = Two REFLECTION_BITS } }
     {
-        over_two(cut(self.k(i).lo(), 2), 62)
+        let low = cut(self.k(i).lo(), SCALE_BITS - u32::from(REFLECTION_BITS));
+        over_two(low, REFLECTION_BITS)
     }
 
     /// The enclosure of tap `i`, from 0 on. Its ends fit 88 bits.
@@ -108,8 +110,9 @@ impl Ladder {
     /// Tap `i`, from 0 on, as a fraction over 2^38: the low end, cut towards zero.
     pub fn v_frac(&self, i: usize) -> Frac
         requires { i ≤ length self.now.k }
-        ensures { result ≡ record { num = cut (tap self.now i).lo (2 ^ 26); den = Two 38 } }
+        ensures { result ≡ record { num = cut (tap self.now i).lo (2 ^ (SCALE_BITS - TAP_BITS)); den = Two TAP_BITS } }
     {
-        over_two(cut(self.v(i).lo(), 26), 38)
+        let low = cut(self.v(i).lo(), SCALE_BITS - u32::from(TAP_BITS));
+        over_two(low, TAP_BITS)
     }
 }

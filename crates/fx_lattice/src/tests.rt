@@ -20,7 +20,10 @@ fn refusal(answer: Result<Ladder, Step>) -> Option<Step> {
 fn a_pole_on_the_unit_circle_is_refused(rt: HostRuntime) -> Result<(), Fail> {
     let one = tenths(10);
     let refused = Step::NotBelowOne(1, Iv::point(1 << 64));
-    assert_eq!(rt; refusal(step_down(rt.alloc(), &[one], &[one, one])), Some(refused));
+    assert_eq!(rt;
+        refusal(step_down(rt.alloc(), &[one], &[one, one])),
+        Some(refused)
+    );
     Ok(())
 }
 

@@ -1,5 +1,6 @@
 use Rattle.std.proofs.Common.{◌≡◌, ◌≤◌, Ok, arith}
 use Rattle.std.proofs.lemmas.Grind.{common_steps}
+use Rattle.fx_eqs.specs.declared.limits.TheConstants.{REFLECTIONS}
 use Rattle.fx_lattice.specs.Lattice.{Lattice}
 use Rattle.fx_lattice.specs.StepDown.{greater_order, step_down}
 use Rattle.fx_lattice.proofs.Levels.{step_down_encloses, step_down_fits, step_down_sizes}
@@ -8,7 +9,7 @@ use Rattle.fx_lattice.proofs.lowering.step_down.Goals as goal
 pub of-requires : goal.of-requires
 of-requires c =
     let l : Lattice = record { k = c.in_ok-rungs.rungs.k.items; v = c.in_ok-rungs.rungs.v.items } in
-    let few : greater_order c.args.b.now c.args.a.now ≤ 11 = omega arith in
+    let few : greater_order c.args.b.now c.args.a.now ≤ REFLECTIONS = omega arith in
     let made : step_down c.args.b.now c.args.a.now ≡ Ok l = grind (arith, common_steps) in
     step_down_fits c.args.b.now c.args.a.now l few made
 
