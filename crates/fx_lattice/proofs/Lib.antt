@@ -10,4 +10,3 @@ mod Ladders
 mod Levels
 mod NeverRefused
 mod Rows
-mod SystemsFit

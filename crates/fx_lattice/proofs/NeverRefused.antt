@@ -10,7 +10,7 @@ use Rattle.fx_sif.specs.Laws.{NeverRefused, WhatFitsHasNoFault}
 use Rattle.fx_sif.specs.declared.parts.Block.TheVariants.{J, K, L, M, N, S}
 use Rattle.fx_sif.specs.declared.parts.Entry.{Entry}
 use Rattle.fx_sif.specs.declared.parts.Sizes.{Sizes}
-use Rattle.fx_sif.proofs.Ascending.{Ascends, CountsFit, across_ascends, ascends_append, ascends_lower, block_base, fits_from, never_from, number, one_ascends, rows_ascend}
+use Rattle.fx_sif.proofs.Ascending.{Ascends, CountsFit, across_ascends, ascends_append, ascends_higher, ascends_lower, block_base, fits_from, never_from, number, one_ascends, rows_ascend}
 use Rattle.fx_sif.proofs.EntryCounts.{across_count, joined_count}
 use Rattle.fx_lattice.specs.Structure.{backward_row, forward_row, from_above, ladder_entries, ladder_form, output_row, state_row}
 
@@ -81,16 +81,11 @@ ladder_ascends k v few taps =
     (ascends_append block_base s 0 (1000 * n) 1000000 forward backward
     (subst (λ m. Ascends block_base s 0 m forward) (let e : 0 + 1000 * n ≡ 1000 * n = omega arith in e)
     (rows_ascend block_base s 0 n (forward_row k) (λ r h. forward_ascends k r few h)))
-    (higher s (1000 * n) (1000 * n + 1000 * n) 1000000 backward (omega arith)
+    (ascends_higher block_base s (1000 * n) (1000 * n + 1000 * n) 1000000 backward (omega arith)
     (rows_ascend block_base s (1000 * n) n (backward_row k) (λ i h. backward_ascends k i few h))))
-    (higher s 1000000 (1000000 + 1000 * n) 2000000 states (omega arith)
+    (ascends_higher block_base s 1000000 (1000000 + 1000 * n) 2000000 states (omega arith)
     (rows_ascend block_base s 1000000 n (state_row n) (λ i h. state_ascends n i few h))))
     (output_ascends n v few taps)
-  where
-    -- a higher end
-    higher : (s : Sizes) (lo hi top : ℕ) (es : List Entry) → hi ≤ top → Ascends block_base s lo hi es → Ascends block_base s lo top es
-    higher s lo hi top [] h r = omega (arith, h, r)
-    higher s lo hi top (e ∷ es) h r = (r.0, r.1, higher s (number block_base e.block e.i e.j + 1) hi top es h r.2)
 
 output_count : (n : ℕ) (v : List Fraction) → length (output_row n v) ≡ length v
 output_count zero v = across_count S 0 0 v
