@@ -15,7 +15,7 @@ use Rattle.fx_nums.specs.declared.fraction.Den.{Den}
 use Rattle.fx_nums.specs.declared.fraction.Den.TheVariants.{Two, Ten}
 use Rattle.fx_eqs.specs.declared.limits.TheConstants.{REFLECTIONS}
 use Rattle.fx_eqs.specs.Values.{difference_of, product_of, value_of, whole}
-use Rattle.fx_lattice.specs.Exact.{EnclosesExact, EnclosesLattice, MeetsStepDown, one_less_square}
+use Rattle.fx_lattice.specs.Exact.{Enclosures, EnclosesExact, EnclosesLattice, EnclosesOrder, MeetsStepDown, OrdersEnclose, below, one_less_square, orders_down}
 use Rattle.fx_lattice.specs.Lattice.{Lattice, LatticeFits, at, reflection, tap}
 use Rattle.fx_lattice.specs.Operations.{is_below_one, less_product, one_point, quotient}
 use Rattle.fx_lattice.specs.StepDown.{behind, coefficient, down, enclosed, enclosures, gathered, greater_order, listed, lower_a, lower_b, lower_denominator, lower_numerator, step_down, with_rung}
@@ -71,11 +71,6 @@ gathered_is (suc n) f ys h =
 
 -- ---- one step
 
--- the values of one order lie in its intervals
-pub record IsLevel (i : ℕ) (a b : List Interval) (p q : ℕ → Ratio) : Type 0 where
-  pub denominator : (j : ℕ) → 1 ≤ j → j ≤ i → Encloses (behind a j) (p j)
-  pub numerator : (j : ℕ) → j ≤ i → Encloses (at b j) (q j)
-
 both_over : (m n : ℕ) → 0 < m → 0 < n → 0 < m * n
 both_over m n h k = one-le-mul h k
 
@@ -118,7 +113,7 @@ denominator_below i a lower p r k p_over k_over held k_held meets made j low hig
 -- and the numerator
 numerator_below : (i : ℕ) (a b upper : List Interval) (p q s : ℕ → Ratio) (v : Ratio)
     → ((j : ℕ) → 0 < (p j).den) → ((j : ℕ) → 0 < (q j).den) → 0 < v.den
-    → IsLevel i a b p q → Encloses (at b i) v
+    → EnclosesOrder i a b p q → Encloses (at b i) v
     → ((j : ℕ) → j < i → SameValue (s j) (difference_of (q j) (product_of v (p (i - j)))))
     → lower_numerator i a b ≡ Some upper → (j : ℕ) → j < i → Encloses (at upper j) (s j)
 unfolding lower_numerator lower_b
@@ -203,8 +198,24 @@ rung_encloses m x y l k v sizes held h g = record {
         let long = sizes.taps in
         rw (get_or_append_left l.v (y ∷ []) (point (pos 0)) i (omega arith)) (held.taps i inside)
 
+-- the order below an order that encloses its values
+one_below : (c e : List Fraction) (n i : ℕ) (a b lower upper : List Interval) (p q : ℕ → ℕ → Ratio) (k v : ℕ → Ratio)
+    → 1 ≤ i → i ≤ n → MeetsStepDown c e n p q k v → EnclosesOrder i a b (p i) (q i) → lower_denominator i a ≡ Some lower → lower_numerator i a b ≡ Some upper
+    → EnclosesOrder (i - 1) lower upper (p (i - 1)) (q (i - 1))
+one_below c e n i a b lower upper p q k v some few meets held of_lower of_upper =
+    let k_held = same_encloses (behind a i) (p i i) (k i) (meets.p_over i i) (held.denominator i some (omega arith)) (sym (meets.k_last i some few)) in
+    let v_held = same_encloses (at b i) (q i i) (v i) (meets.q_over i i) (held.numerator i (omega arith)) (sym (meets.v_last i few)) in
+    record {
+      denominator = λ j low high.
+          denominator_below i a lower (p i) (p (i - 1)) (k i) (meets.p_over i) (meets.k_over i) held.denominator k_held
+          (λ j low high. meets.p_lower i j low high few) of_lower j low high;
+      numerator = λ j high.
+          numerator_below i a b upper (p i) (q i) (q (i - 1)) (v i) (meets.p_over i) (meets.q_over i) (meets.v_over i) held v_held
+          (λ j high. meets.q_lower i j high few) of_upper j (omega arith);
+    }
+
 all_enclosed : (c e : List Fraction) (n i : ℕ) (a b : List Interval) (l : Lattice) (p q : ℕ → ℕ → Ratio) (k v : ℕ → Ratio)
-    → i ≤ n → MeetsStepDown c e n p q k v → IsLevel i a b (p i) (q i) → down i a b ≡ Ok l → EnclosesLattice i l k v
+    → i ≤ n → MeetsStepDown c e n p q k v → EnclosesOrder i a b (p i) (q i) → down i a b ≡ Ok l → EnclosesLattice i l k v
 all_enclosed c e n zero a b l p q k v few meets held h =
     subst (λ l. EnclosesLattice zero l k v) (same_ok (record { k = []; v = at b 0 ∷ [] }) l h) (record {
       reflections = λ i low high. absurd (omega arith);
@@ -218,19 +229,10 @@ all_enclosed c e n (suc m) a b l p q k v few meets held h =
     let less : i - 1 ≡ m = omega arith in
     let k_held = same_encloses (behind a i) (p i i) (k i) (meets.p_over i i) (held.denominator i (omega arith) (omega arith)) (sym (meets.k_last i (omega arith) few)) in
     let v_held = same_encloses (at b i) (q i i) (v i) (meets.q_over i i) (held.numerator i (omega arith)) (sym (meets.v_last i few)) in
-    let below : IsLevel m d.lower d.upper (p m) (q m) = record {
-      denominator = λ j low high.
-          denominator_below i a d.lower (p i) (p m) (k i) (meets.p_over i) (meets.k_over i) held.denominator k_held
-          (λ j low high. subst (λ m. SameValue (product_of (p m j) (one_less_square (k i))) (difference_of (p i j) (product_of (k i) (p i (i - j))))) less (meets.p_lower i j low high few))
-          d.lower_is j low (omega arith);
-      numerator = λ j high.
-          numerator_below i a b d.upper (p i) (q i) (q m) (v i) (meets.p_over i) (meets.q_over i) (meets.v_over i) held v_held
-          (λ j high. subst (λ m. SameValue (q m j) (difference_of (q i j) (product_of (v i) (p i (i - j))))) less (meets.q_lower i j high few))
-          d.upper_is j (omega arith);
-    } in
+    let next = subst (λ m. EnclosesOrder m d.lower d.upper (p m) (q m)) less (one_below c e n i a b d.lower d.upper p q k v (omega arith) few meets held d.lower_is d.upper_is) in
     subst (λ l. EnclosesLattice i l k v) d.is
     (rung_encloses m (behind a i) (at b i) d.rest k v (sizes_of m d.lower d.upper d.rest d.rest_is)
-    (all_enclosed c e n m d.lower d.upper d.rest p q k v (omega arith) meets below d.rest_is) k_held v_held)
+    (all_enclosed c e n m d.lower d.upper d.rest p q k v (omega arith) meets next d.rest_is) k_held v_held)
 
 -- ---- a transfer function
 
@@ -250,18 +252,48 @@ given_encloses cs first count j x l same =
     rw (listed_at count (λ j. enclosed (coefficient cs (j + first))) j l)
     (same_encloses (enclosed c) (value_of c) x (den_over c.den) (enclosed_encloses c) (sym same))
 
-pub step_down_encloses : (b a : List Fraction) (l : Lattice) → step_down b a ≡ Ok l → EnclosesExact b a l
-step_down_encloses b a l h p q k v meets =
+start_encloses : (b a : List Fraction) (p q : ℕ → ℕ → Ratio) (k v : ℕ → Ratio) → let n = greater_order b a in
+    MeetsStepDown b a n p q k v → EnclosesOrder n (enclosures a 1 n) (enclosures b 0 (n + 1)) (p n) (q n)
+start_encloses b a p q k v meets =
     let n = greater_order b a in
-    let start : IsLevel n (enclosures a 1 n) (enclosures b 0 (n + 1)) (p n) (q n) = record {
+    record {
       denominator = λ j low high.
           let here : j - 1 + 1 ≡ j = omega arith in
           given_encloses a 1 n (j - 1) (p n j) (omega arith) (subst (λ i. SameValue (p n j) (value_of (coefficient a i))) (sym here) (meets.p_highest j low high));
       numerator = λ j high.
           let here : j + 0 ≡ j = omega arith in
           given_encloses b 0 (n + 1) j (q n j) (omega arith) (subst (λ i. SameValue (q n j) (value_of (coefficient b i))) (sym here) (meets.q_highest j high));
-    } in
-    all_enclosed b a n n (enclosures a 1 n) (enclosures b 0 (n + 1)) l p q k v (omega arith) meets start h
+    }
+
+pub step_down_encloses : (b a : List Fraction) (l : Lattice) → step_down b a ≡ Ok l → EnclosesExact b a l
+step_down_encloses b a l h p q k v meets =
+    let n = greater_order b a in
+    all_enclosed b a n n (enclosures a 1 n) (enclosures b 0 (n + 1)) l p q k v (omega arith) meets (start_encloses b a p q k v meets) h
+
+-- order by order
+same_some : (x y : Enclosures) → ◌≡◌ {A = Option Enclosures} (Some x) (Some y) → x ≡ y
+same_some x y h = cc
+
+pub orders_enclose : OrdersEnclose
+orders_enclose b a p q k v zero e meets few h =
+    let n = greater_order b a in
+    let all : n ≡ n - 0 = omega arith in
+    subst (λ i. EnclosesOrder i e.a e.b (p i) (q i)) all
+    (subst (λ e. EnclosesOrder n e.a e.b (p n) (q n)) (same_some (record { a = enclosures a 1 n; b = enclosures b 0 (n + 1) }) e h) (start_encloses b a p q k v meets))
+orders_enclose b a p q k v (suc m) e meets few h =
+    let n = greater_order b a in
+    let i = n - m in
+    let less : i - 1 ≡ n - suc m = omega arith in
+    option_and_then_some (below i) (orders_down b a m) e h
+    (λ x is made.
+    option_and_then_some (λ lower. option_and_then (λ upper. Some (record { a = lower; b = upper })) (lower_numerator i x.a x.b)) (lower_denominator i x.a) e made
+    (λ lower of_lower rest.
+    option_and_then_some (λ upper. Some (record { a = lower; b = upper })) (lower_numerator i x.a x.b) e rest
+    (λ upper of_upper last.
+    let held = orders_enclose b a p q k v m x meets (omega arith) is in
+    subst (λ i. EnclosesOrder i e.a e.b (p i) (q i)) less
+    (subst (λ e. EnclosesOrder (i - 1) e.a e.b (p (i - 1)) (q (i - 1))) (same_some (record { a = lower; b = upper }) e last)
+    (one_below b a n i x.a x.b lower upper p q k v (omega arith) (omega arith) meets held of_lower of_upper)))))
 
 pub step_down_sizes : (b a : List Fraction) (l : Lattice) → step_down b a ≡ Ok l → HasSizes (greater_order b a) l
 step_down_sizes b a l h = let n = greater_order b a in sizes_of n (enclosures a 1 n) (enclosures b 0 (n + 1)) l h

@@ -8,7 +8,6 @@ use Rattle.fx_sif.specs.Entries.{across, coefficient, entry}
 use Rattle.fx_sif.specs.Fits.{ImplicitFits}
 use Rattle.fx_sif.specs.Laws.{NeverRefused, WhatFitsHasNoFault}
 use Rattle.fx_sif.specs.declared.parts.Block.TheVariants.{J, K, L, M, N, S}
-use Rattle.fx_sif.specs.declared.parts.Entry.{Entry}
 use Rattle.fx_sif.specs.declared.parts.Sizes.{Sizes}
 use Rattle.fx_sif.proofs.Ascending.{Ascends, CountsFit, across_ascends, ascends_append, ascends_higher, ascends_lower, block_base, fits_from, never_from, number, one_ascends, rows_ascend}
 use Rattle.fx_sif.proofs.EntryCounts.{across_count, joined_count}

@@ -1,11 +1,12 @@
 -- Step-down over exact values, and what the enclosures of a lattice enclose.
-use Rattle.std.specs.Prelude.{ℕ, ◌-◌, ◌<◌, ◌≤◌, pos, List}
+use Rattle.std.specs.Prelude.{◌≡◌, ℕ, zero, suc, ◌+◌, ◌-◌, ◌<◌, ◌≤◌, pos, List, Option, Some, option_and_then}
 use Rattle.fx_math.specs.Ratio.{Ratio, SameValue}
 use Rattle.fx_nums.specs.Enclosing.{Encloses}
 use Rattle.fx_nums.specs.Fraction.{Fraction}
 use Rattle.fx_eqs.specs.Values.{difference_of, product_of, value_of, whole}
-use Rattle.fx_lattice.specs.Lattice.{Lattice, reflection, tap}
-use Rattle.fx_lattice.specs.StepDown.{coefficient, greater_order}
+use Rattle.fx_nums.specs.Interval.{Interval}
+use Rattle.fx_lattice.specs.Lattice.{Lattice, at, reflection, tap}
+use Rattle.fx_lattice.specs.StepDown.{behind, coefficient, enclosures, greater_order, lower_denominator, lower_numerator}
 
 -- 1 - k^2
 abbrev pub one_less_square : Ratio → Ratio
@@ -36,3 +37,32 @@ abbrev pub EnclosesExact : List Fraction → List Fraction → Lattice → Type 
 EnclosesExact b a l =
     let n = greater_order b a in
     (p q : ℕ → ℕ → Ratio) (k v : ℕ → Ratio) → MeetsStepDown b a n p q k v → EnclosesLattice n l k v
+
+-- ---- order by order
+
+-- a_1 to a_i and b_0 to b_i, enclosed
+pub record Enclosures : Type 0 where
+  pub a : List Interval
+  pub b : List Interval
+
+-- those of order i - 1, where all are in range
+abbrev pub below : ℕ → Enclosures → Option Enclosures
+below i e =
+    option_and_then (λ a. option_and_then (λ b. Some (record { a = a; b = b })) (lower_numerator i e.a e.b)) (lower_denominator i e.a)
+
+-- those of a transfer function, so many orders down from its own
+abbrev pub orders_down : List Fraction → List Fraction → ℕ → Option Enclosures
+orders_down b a zero = let n = greater_order b a in Some (record { a = enclosures a 1 n; b = enclosures b 0 (n + 1) })
+orders_down b a (suc m) = option_and_then (below (greater_order b a - m)) (orders_down b a m)
+
+-- each coefficient of order i lies in its interval
+pub record EnclosesOrder (i : ℕ) (a b : List Interval) (p q : ℕ → Ratio) : Type 0 where
+  pub denominator : (j : ℕ) → 1 ≤ j → j ≤ i → Encloses (behind a j) (p j)
+  pub numerator : (j : ℕ) → j ≤ i → Encloses (at b j) (q j)
+
+-- whatever values meet step-down exactly, each order encloses them
+abbrev pub OrdersEnclose : Type 0
+OrdersEnclose =
+    (b a : List Fraction) (p q : ℕ → ℕ → Ratio) (k v : ℕ → Ratio) (m : ℕ) (e : Enclosures) →
+    let n = greater_order b a in
+    MeetsStepDown b a n p q k v → m ≤ n → orders_down b a m ≡ Some e → EnclosesOrder (n - m) e.a e.b (p (n - m)) (q (n - m))

@@ -12,7 +12,7 @@ mod structure;
 #[cfg(test)]
 mod tests;
 
-pub use laws::{ladder_is_never_refused, ladder_keeps_the_outputs};
+pub use laws::{ladder_is_never_refused, ladder_keeps_the_outputs, orders_are_enclosed};
 pub use limits::{REFLECTION_BITS, TAP_BITS, lattice_limits_are_these};
 pub use lowering::step_down;
 pub use refusal::Step;
