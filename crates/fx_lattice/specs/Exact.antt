@@ -12,9 +12,10 @@ use Rattle.fx_lattice.specs.StepDown.{behind, coefficient, enclosures, greater_o
 abbrev pub one_less_square : Ratio → Ratio
 one_less_square k = difference_of (whole (pos 1)) (product_of k k)
 
--- Coefficient j of order i is p i j in the denominator and q i j in the numerator; the denominator's first is 1. Of order n
--- they are those of the transfer function. k_i is the denominator's last and v_i the numerator's last of order i, and
--- p_(i-1)_j (1 - k_i^2) = p_i_j - k_i p_i_(i-j) and q_(i-1)_j = q_i_j - v_i p_i_(i-j).
+-- Coefficient j of order i is p i j in the denominator and q i j in the numerator; the denominator's first is
+-- 1. Of order n they are those of the transfer function. Of order i, k_i is the denominator's last and v_i the
+-- numerator's last. Those of order i - 1 are p_(i-1)_j = (p_i_j - k_i p_i_(i-j)) / (1 - k_i^2) and
+-- q_(i-1)_j = q_i_j - v_i p_i_(i-j).
 pub record MeetsStepDown (b a : List Fraction) (n : ℕ) (p q : ℕ → ℕ → Ratio) (k v : ℕ → Ratio) : Type 0 where
   pub p_over : (i j : ℕ) → 0 < (p i j).den
   pub q_over : (i j : ℕ) → 0 < (q i j).den
@@ -24,8 +25,10 @@ pub record MeetsStepDown (b a : List Fraction) (n : ℕ) (p q : ℕ → ℕ → 
   pub q_highest : (j : ℕ) → j ≤ n → SameValue (q n j) (value_of (coefficient b j))
   pub k_last : (i : ℕ) → 1 ≤ i → i ≤ n → SameValue (k i) (p i i)
   pub v_last : (i : ℕ) → i ≤ n → SameValue (v i) (q i i)
-  pub p_lower : (i j : ℕ) → 1 ≤ j → j < i → i ≤ n → SameValue (product_of (p (i - 1) j) (one_less_square (k i))) (difference_of (p i j) (product_of (k i) (p i (i - j))))
-  pub q_lower : (i j : ℕ) → j < i → i ≤ n → SameValue (q (i - 1) j) (difference_of (q i j) (product_of (v i) (p i (i - j))))
+  pub p_lower : (i j : ℕ) → 1 ≤ j → j < i → i ≤ n →
+      SameValue (product_of (p (i - 1) j) (one_less_square (k i))) (difference_of (p i j) (product_of (k i) (p i (i - j))))
+  pub q_lower : (i j : ℕ) → j < i → i ≤ n →
+      SameValue (q (i - 1) j) (difference_of (q i j) (product_of (v i) (p i (i - j))))
 
 -- each value lies in its interval
 pub record EnclosesLattice (n : ℕ) (l : Lattice) (k v : ℕ → Ratio) : Type 0 where
@@ -48,11 +51,14 @@ pub record Enclosures : Type 0 where
 -- those of order i - 1, where all are in range
 abbrev pub below : ℕ → Enclosures → Option Enclosures
 below i e =
-    option_and_then (λ a. option_and_then (λ b. Some (record { a = a; b = b })) (lower_numerator i e.a e.b)) (lower_denominator i e.a)
+    option_and_then (λ a. option_and_then (λ b. Some (record { a = a; b = b })) (lower_numerator i e.a e.b))
+    (lower_denominator i e.a)
 
 -- those of a transfer function, so many orders down from its own
 abbrev pub orders_down : List Fraction → List Fraction → ℕ → Option Enclosures
-orders_down b a zero = let n = greater_order b a in Some (record { a = enclosures a 1 n; b = enclosures b 0 (n + 1) })
+orders_down b a zero =
+    let n = greater_order b a in
+    Some (record { a = enclosures a 1 n; b = enclosures b 0 (n + 1) })
 orders_down b a (suc m) = option_and_then (below (greater_order b a - m)) (orders_down b a m)
 
 -- each coefficient of order i lies in its interval
@@ -65,4 +71,5 @@ abbrev pub OrdersEnclose : Type 0
 OrdersEnclose =
     (b a : List Fraction) (p q : ℕ → ℕ → Ratio) (k v : ℕ → Ratio) (m : ℕ) (e : Enclosures) →
     let n = greater_order b a in
-    MeetsStepDown b a n p q k v → m ≤ n → orders_down b a m ≡ Some e → EnclosesOrder (n - m) e.a e.b (p (n - m)) (q (n - m))
+    MeetsStepDown b a n p q k v → m ≤ n → orders_down b a m ≡ Some e →
+    EnclosesOrder (n - m) e.a e.b (p (n - m)) (q (n - m))

@@ -1,5 +1,7 @@
 -- Lattices of enclosures: reflection coefficients and taps.
 use Rattle.std.specs.Prelude.{◌≡◌, ℕ, suc, ◌+◌, ◌-◌, ◌/◌, ◌≤◌, ◌<ℤ◌, ◌^◌, ℤ, pos, negsuc, neg_ℤ, List, length, slice_index_or}
+use Rattle.fx_nums.specs.Fraction.{Fraction}
+use Rattle.fx_nums.specs.declared.fraction.Den.TheVariants.{Two}
 use Rattle.fx_nums.specs.Interval.{Interval, point}
 use Rattle.fx_nums.specs.declared.limits.TheConstants.{SCALE_BITS}
 use Rattle.fx_eqs.specs.declared.limits.TheConstants.{REFLECTIONS}
@@ -34,3 +36,7 @@ pub record IsBelowOne (i : Interval) : Type 0 where
 abbrev pub cut : ℤ → ℕ → ℤ
 cut (pos m) n = pos (m / n)
 cut (negsuc m) n = neg_ℤ (pos (suc m / n))
+
+-- the low end over 2 ^ bits, cut towards zero
+abbrev pub low_over : ℕ → Interval → Fraction
+low_over bits i = record { num = cut i.lo (2 ^ (SCALE_BITS - bits)); den = Two bits }

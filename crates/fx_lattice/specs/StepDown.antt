@@ -1,5 +1,5 @@
--- Step-down over intervals: from numerator b and denominator a, whose first coefficient is 1, to a lattice with the same
--- transfer function. Of order i, a has a_1 to a_i behind the leading 1, and b has b_0 to b_i.
+-- Step-down over intervals: from numerator b and denominator a, whose first coefficient is 1, to a lattice
+-- with the same transfer function. Of order i, a has a_1 to a_i behind the leading 1, and b has b_0 to b_i.
 use Rattle.std.specs.Prelude.{ℕ, zero, suc, ◌+◌, ◌-◌, max, Bool, true, false, List, [], ◌∷◌, ◌++◌, length, slice_index_or, Option, Some, option_and_then, Result, Ok}
 use Rattle.fx_math.specs.Faults.{◌>>=◌, or_fault, unless}
 use Rattle.fx_nums.specs.Fraction.{Fraction, den_value, zero_fraction}
@@ -29,12 +29,14 @@ behind a j = at a (j - 1)
 
 -- (a_j - k_i a_(i-j)) / (1 - k_i^2), where k_i is a_i and the divisor is d
 unfoldable pub lower_a : ℕ → List Interval → Interval → ℕ → Option Interval
-lower_a i a d j = option_and_then (λ n. quotient n d) (less_product (behind a j) (behind a i) (behind a (i - j)))
+lower_a i a d j =
+    option_and_then (λ n. quotient n d) (less_product (behind a j) (behind a i) (behind a (i - j)))
 
 -- for j from 1 to i - 1
 unfoldable pub lower_denominator : ℕ → List Interval → Option (List Interval)
 lower_denominator i a =
-    option_and_then (λ d. gathered (i - 1) (λ p. lower_a i a d (p + 1))) (less_product one_point (behind a i) (behind a i))
+    option_and_then (λ d. gathered (i - 1) (λ p. lower_a i a d (p + 1)))
+    (less_product one_point (behind a i) (behind a i))
 
 -- b_j - v_i a_(i-j), where v_i is b_i
 unfoldable pub lower_b : ℕ → List Interval → List Interval → ℕ → Option Interval

@@ -1,5 +1,6 @@
--- The lattice structure of N reflection coefficients k_1 to k_N and N + 1 taps v_0 to v_N: its counts, and its entries row
--- after row. f_N is the input and g_0 is f_0; where N = 0 both are the input, and there is only y = v_0 u.
+-- The lattice structure of N reflection coefficients k_1 to k_N and N + 1 taps v_0 to v_N: its counts, and
+-- its entries row after row. f_N is the input and g_0 is f_0; where N = 0 both are the input, and there is
+-- only y = v_0 u.
 use Rattle.std.specs.Prelude.{ℕ, zero, suc, ◌+◌, ◌-◌, ◌*◌, List, [], ◌∷◌, ◌++◌, length}
 use Rattle.fx_math.specs.Sums.{joined}
 use Rattle.fx_nums.specs.Fraction.{Fraction, minus, one_fraction}

@@ -1,5 +1,5 @@
-//! The lattice structure: step-down from a transfer function to reflection coefficients and taps, and the structure as a
-//! filter in implicit form.
+//! The lattice structure: step-down from a transfer function to reflection coefficients and taps, and the
+//! structure as a filter in implicit form.
 #![tactic(auto)]
 
 mod laws;

@@ -178,15 +178,16 @@ fn down(alloc: Global, i: usize, a: &[Operand], b: &[Operand]) -> Result<Rungs, 
     Ok(rungs)
 }
 
-/// Step-down: the lattice with the transfer function of numerator `b` and denominator `a`, of 1 to `REFLECTIONS` + 1 coefficients
-/// each. The denominator's first stands for 1 and is not read. Missing coefficients are 0.
+/// Step-down: the lattice with the transfer function of numerator `b` and denominator `a`, of 1 to
+/// `REFLECTIONS` + 1 coefficients each. The denominator's first stands for 1 and is not read. Missing
+/// coefficients are 0.
 ///
-/// From the greater order down to 1, the reflection coefficient `k` of order `i` is the denominator's last coefficient and the
-/// tap `v` the numerator's. The next denominator is `(a_j - k a_(i-j)) / (1 - k^2)`, and the next numerator is
-/// `b_j - v a_(i-j)`. The arithmetic is that of `Iv`, in this order of operations.
+/// From the greater order down to 1, the reflection coefficient `k` of order `i` is the denominator's last
+/// coefficient and the tap `v` the numerator's. The next denominator is `(a_j - k a_(i-j)) / (1 - k^2)`, and
+/// the next numerator is `b_j - v a_(i-j)`. The arithmetic is that of `Iv`, in this order of operations.
 ///
-/// Its error is the first refusal: `NotBelowOne` with the enclosure of `k` where that does not lie strictly between -1 and 1,
-/// then `Range` where an enclosure of this order leaves 88 bits or a divisor may be 0.
+/// Its error is the first refusal: `NotBelowOne` with the enclosure of `k` where that does not lie strictly
+/// between -1 and 1, then `Range` where an enclosure of this order leaves 88 bits or a divisor may be 0.
 pub fn step_down(alloc: Global, b: &[Frac], a: &[Frac]) -> Result<Ladder, Step>
     requires numerator_low { 1 ≤ length b.now }
     requires numerator_high { length b.now ≤ REFLECTIONS + 1 }

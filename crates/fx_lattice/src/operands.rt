@@ -95,7 +95,8 @@ impl Operand {
         self.less(product)
     }
 
-    /// The quotients of the numbers of both. None also where the divisor, which is widened first, then has the number 0.
+    /// The quotients of the numbers of both. None also where the divisor, which is widened first, then has
+    /// the number 0.
     #[tactic(auto, unfolding(crate::specs::Operations::in_range, crate::specs::Operations::quotient))]
     pub fn over(self, o: Operand) -> Option<Operand>
         ensures { result ≡ quotient self o }

@@ -2,15 +2,15 @@ ghost use Rattle.std.specs.Prelude.{◌≡◌, ◌≤◌, ◌<◌, ◌+◌, ◌-
 ghost use Rattle.fx_nums.specs.Fraction.{FractionFits};
 ghost use Rattle.fx_nums.specs.declared.fraction.Den.TheVariants.{Two};
 ghost use Rattle.fx_nums.specs.Interval.{IntervalFits};
-ghost use Rattle.fx_lattice.specs.Lattice.{IsBelowOne, LatticeFits, cut, reflection, tap};
+ghost use Rattle.fx_lattice.specs.Lattice.{IsBelowOne, LatticeFits, cut, low_over, reflection, tap};
 
 use crate::limits::{REFLECTION_BITS, TAP_BITS};
 use crate::operands::{Operand, Reflection};
 use fx_nums::{Den, Frac, Iv, NUMERATOR_BITS, OPERAND_BITS, SCALE_BITS};
 use std::marker::Model;
 
-/// The lattice of a transfer function: enclosures of its reflection coefficients, N of them from 1 on, and of its N + 1 taps
-/// from 0 on. N is at most `REFLECTIONS` of fx_eqs.
+/// The lattice of a transfer function: enclosures of its reflection coefficients, N of them from 1 on, and of
+/// its N + 1 taps from 0 on. N is at most `REFLECTIONS` of fx_eqs.
 #[derive(Drop)]
 pub struct Ladder {
     k: Vec<Reflection>,
@@ -92,7 +92,7 @@ impl Ladder {
     pub fn k_frac(&self, i: usize) -> Frac
         requires low { 1 ≤ i }
         requires high { i ≤ length self.now.k }
-        ensures { result ≡ record { num = cut (reflection self.now i).lo (2 ^ (SCALE_BITS - REFLECTION_BITS)); den = Two REFLECTION_BITS } }
+        ensures { result ≡ low_over REFLECTION_BITS (reflection self.now i) }
     {
         let low = cut(self.k(i).lo(), SCALE_BITS - u32::from(REFLECTION_BITS));
         over_two(low, REFLECTION_BITS)
@@ -110,7 +110,7 @@ impl Ladder {
     /// Tap `i`, from 0 on, as a fraction over 2^38: the low end, cut towards zero.
     pub fn v_frac(&self, i: usize) -> Frac
         requires { i ≤ length self.now.k }
-        ensures { result ≡ record { num = cut (tap self.now i).lo (2 ^ (SCALE_BITS - TAP_BITS)); den = Two TAP_BITS } }
+        ensures { result ≡ low_over TAP_BITS (tap self.now i) }
     {
         let low = cut(self.v(i).lo(), SCALE_BITS - u32::from(TAP_BITS));
         over_two(low, TAP_BITS)

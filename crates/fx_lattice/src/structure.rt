@@ -98,9 +98,9 @@ fn sizes(order: usize) -> Sizes
     }
 }
 
-/// The lattice structure of up to `REFLECTIONS` reflection coefficients `k`, from the first on, and one tap `v` more. Its
-/// intermediate variables are what goes forward from the input to the first reflection and what comes back, and its states
-/// are what came back at the moment before. Its error is want of memory.
+/// The lattice structure of up to `REFLECTIONS` reflection coefficients `k`, from the first on, and one tap
+/// `v` more. Its intermediate variables are what goes forward from the input to the first reflection and what
+/// comes back, and its states are what came back at the moment before. Its error is want of memory.
 pub fn ladder_sif(alloc: Global, k: &[Frac], v: &[Frac]) -> Result<Sif, AllocError>
     requires order { length k.now ≤ REFLECTIONS }
     requires taps { length v.now ≡ length k.now + 1 }
