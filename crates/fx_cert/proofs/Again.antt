@@ -12,9 +12,9 @@ use Rattle.std.proofs.lemmas.Int.{ints}
 use Rattle.fx_msb.specs.Widths.{IsBound}
 use Rattle.fx_cert.specs.declared.fault.CertFault.{CertFault}
 use Rattle.fx_cert.specs.Certificate.{Certificate, CertificateFits, IsError, IsTextOf, first_line, numbered, numbered_each, text_of}
-use Rattle.fx_cert.specs.Lines.{TextLine, lines_of}
+use Rattle.fx_cert.specs.Lines.{TextLine, lines_of, no_feed}
 use Rattle.fx_cert.specs.Reading.{behind, behind_head, bound_at, bounds_in, certificate_in, each_at, end_at, ended_line, error_at, errors_in, length_in, number_behind, numbered_at, outputs_at}
-use Rattle.fx_cert.proofs.NumberLaws.{decimal_no_feed, no_feed, number_again}
+use Rattle.fx_cert.proofs.NumberLaws.{decimal_no_feed, number_again}
 use Rattle.fx_cert.proofs.LineLaws.{line_again}
 
 -- ---- one line

@@ -1,4 +1,5 @@
 mod Again
+mod First
 mod Lengths
 mod LineLaws
 mod Loops

@@ -6,12 +6,8 @@ use Rattle.std.proofs.lemmas.Fmt.{decimal_digit, decimal_step_wide, decimal_by_s
 use Rattle.std.proofs.lemmas.List.{append-nil}
 use Rattle.std.proofs.lemmas.Option.{same_Some}
 use Rattle.std.specs.Prelude.{option_and_then, nat_lt}
+use Rattle.fx_cert.specs.Lines.{no_feed}
 use Rattle.fx_cert.specs.Reading.{has_no_leading_zero, is_digit, number_within, value_within}
-
--- a text with no line feed
-abbrev pub no_feed : List ℕ → Bool
-no_feed [] = true
-no_feed (c ∷ cs) = not (c == 10) && no_feed cs
 
 -- ---- numbers
 

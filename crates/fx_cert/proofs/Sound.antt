@@ -16,15 +16,15 @@ use Rattle.fx_cert.specs.Certificate.{Certificate, CertificateFits, IsError, IsT
 use Rattle.fx_cert.specs.Lines.{TextLine, are_none, joined, lines_of}
 use Rattle.fx_cert.specs.Reading.{begins, behind, behind_head, bound_at, bounds_in, certificate_in, each_at, end_at, ended_line, error_at, errors_in, length_in, number_behind, number_within, numbered_at, outputs_at}
 use Rattle.fx_cert.proofs.NumberLaws.{number_takes}
-use Rattle.fx_cert.proofs.LineLaws.{lines_law}
+use Rattle.fx_cert.proofs.LineLaws.{lines_join}
 
 -- ---- steps
 
-bind_ok : {A B : Type 0} (r : Result A CertFault) (f : A → Result B CertFault) (y : B) → (r >>= f) ≡ Ok y → (x : A) × (r ≡ Ok x) × (f x ≡ Ok y)
+pub bind_ok : {A B : Type 0} (r : Result A CertFault) (f : A → Result B CertFault) (y : B) → (r >>= f) ≡ Ok y → (x : A) × (r ≡ Ok x) × (f x ≡ Ok y)
 bind_ok (Ok x) f y e = (x, refl, e)
 bind_ok (Err d) f y e = absurd cc
 
-fault_ok : {A : Type 0} (f : CertFault) (o : Option A) (x : A) → or_fault f o ≡ Ok x → o ≡ Some x
+pub fault_ok : {A : Type 0} (f : CertFault) (o : Option A) (x : A) → or_fault f o ≡ Ok x → o ≡ Some x
 fault_ok f None x e = absurd cc
 fault_ok f (Some y) x e = cc
 
@@ -32,15 +32,15 @@ unless_ok : (f : CertFault) (b : Bool) (u : Unit {0}) → unless f b ≡ Ok u �
 unless_ok f true u e = refl
 unless_ok f false u e = absurd cc
 
-abbrev done : {A : Type 0} → A → Result A CertFault
+abbrev pub done : {A : Type 0} → A → Result A CertFault
 done x = Ok x
 
-ok_is : {A : Type 0} (x y : A) → done x ≡ done y → x ≡ y
+pub ok_is : {A : Type 0} (x y : A) → done x ≡ done y → x ≡ y
 ok_is x y e = cc
 
 -- ---- one line
 
-cond_ok : {A : Type 0} (b : Bool) (f : CertFault) (x y : A) → cond b (done x) (Err f) ≡ Ok y → (b ≡ true) × (x ≡ y)
+pub cond_ok : {A : Type 0} (b : Bool) (f : CertFault) (x y : A) → cond b (done x) (Err f) ≡ Ok y → (b ≡ true) × (x ≡ y)
 cond_ok true f x y e = (refl, cc)
 cond_ok false f x y e = absurd cc
 
@@ -159,6 +159,11 @@ module _ (one : ℕ → List TextLine → Result (ℤ × List TextLine) CertFaul
       subst (EachStands word P (suc k) ls) (ok_is (first.0 ∷ others.0, others.1) p last)
       (record { stands = text; fits = All-cons P first.0 others.0 h.fits rest.fits; count_is = ap (λ (m : ℕ). suc m) rest.count_is })
 
+-- a count and so many numbers
+counted_lines : (head word text behind last rest : List ℕ) (n : ℕ) (zs : List ℤ) → text ≡ numbered head (decimal n) ++ behind → behind ≡ numbered_each word zs ++ last → last ≡ rest → length zs ≡ n
+    → text ≡ numbered head (decimal (length zs)) ++ (numbered_each word zs ++ rest)
+counted_lines head word text behind last rest n zs first more same count = first ∙ rw (more, same, count) refl
+
 -- ---- the parts
 
 same_text : (xs ys : List ℕ) → bytes_eq xs ys ≡ true → xs ≡ ys
@@ -202,8 +207,7 @@ bounds_stand ls p e =
     let count = numbered_stands 3 (codes "rows ") 1 64 ls rows (lit< tt) first in
     let each = each_stands (bound_at rows.0) (codes "X ") IsBound (bound_stands rows.0) rows.0 0 rows.1 p second in
     record {
-      stands = count.stands ∙ ap (λ (t : List ℕ). numbered (codes "rows ") (decimal rows.0) ++ t) each.stands
-          ∙ ap (λ (m : ℕ). numbered (codes "rows ") (decimal m) ++ (numbered_each (codes "X ") p.0 ++ joined p.1)) (sym each.count_is);
+      stands = counted_lines (codes "rows ") (codes "X ") (joined ls) (joined rows.1) (joined p.1) (joined p.1) rows.0 p.0 count.stands each.stands refl each.count_is;
       above = rw each.count_is count.above;
       below = rw each.count_is count.below;
       fits = each.fits;
@@ -245,8 +249,7 @@ errors_stand rows ls es e =
     let each = each_stands (error_at rows outputs.0) (codes "E ") IsError (error_stands rows outputs.0) outputs.0 0 outputs.1 errors third in
     let end = end_stands rows outputs.0 errors.1 u fifth in
     subst (ErrorsStand ls) (ok_is errors.0 es last) (record {
-      stands = count.stands ∙ ap (λ (t : List ℕ). numbered (codes "outputs ") (decimal outputs.0) ++ t) (each.stands ∙ ap (λ (t : List ℕ). numbered_each (codes "E ") errors.0 ++ t) end)
-          ∙ ap (λ (m : ℕ). numbered (codes "outputs ") (decimal m) ++ (numbered_each (codes "E ") errors.0 ++ codes "end\n")) (sym each.count_is);
+      stands = counted_lines (codes "outputs ") (codes "E ") (joined ls) (joined outputs.1) (joined errors.1) (codes "end\n") outputs.0 errors.0 count.stands each.stands end each.count_is;
       above = rw each.count_is count.above;
       below = rw each.count_is count.below;
       fits = each.fits;
@@ -270,7 +273,7 @@ certificate_stands ls c e =
     (whole ls len.1 bounds.1 len.0 bounds.0 errors (length_stands ls len first) (bounds_stand len.1 bounds third) (errors_stand (length bounds.0) bounds.1 errors fifth))
 
 pub text_stands : (bytes : List ℕ) (c : Certificate) → certificate_in (lines_of bytes) ≡ Ok c → IsTextOf bytes c
-text_stands bytes c e = subst (λ (t : List ℕ). IsTextOf t c) (lines_law bytes) (certificate_stands (lines_of bytes) c e)
+text_stands bytes c e = subst (λ (t : List ℕ). IsTextOf t c) (lines_join bytes) (certificate_stands (lines_of bytes) c e)
 
 pub reads_fit : (ls r1 r2 : List TextLine) (len : ℕ) (xs es : List ℤ) → length_in ls ≡ Ok (len, r1) → bounds_in r1 ≡ Ok (xs, r2) → errors_in (length xs) r2 ≡ Ok es → CertificateFits (record { length = len; bounds = xs; errors = es })
 reads_fit ls r1 r2 len xs es l b e = (whole ls r1 r2 len xs es (length_stands ls (len, r1) l) (bounds_stand r1 (xs, r2) b) (errors_stand (length xs) r2 es e)).fits

@@ -1,4 +1,5 @@
 pub mod Certificate
+pub mod FirstFault
 pub mod Inside
 pub mod Laws
 pub mod Lines

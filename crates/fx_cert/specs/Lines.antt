@@ -1,5 +1,5 @@
 -- The lines of a text.
-use Rattle.std.specs.Prelude.{ℕ, ◌==◌, Bool, true, false, List, [], ◌∷◌, ◌++◌, if◌then◌else◌}
+use Rattle.std.specs.Prelude.{ℕ, ◌≡◌, ◌≤◌, ◌==◌, ◌&&◌, Bool, true, false, not, List, [], ◌∷◌, ◌++◌, length, if◌then◌else◌}
 
 -- a line's bytes, and whether a line feed ends it
 pub record TextLine : Type 0 where
@@ -28,3 +28,18 @@ joined (l ∷ ls) = l.text ++ (if l.ended then line_feed ∷ joined ls else join
 abbrev pub are_none : List TextLine → Bool
 are_none [] = true
 are_none (l ∷ ls) = false
+
+-- there is no line feed
+abbrev pub no_feed : List ℕ → Bool
+no_feed [] = true
+no_feed (c ∷ cs) = not (c == line_feed) && no_feed cs
+
+-- a line that is not ended is not empty, and the last
+abbrev pub IsEnded : Bool → List ℕ → List TextLine → Type 0
+IsEnded true text behind = Unit {0}
+IsEnded false text behind = (1 ≤ length text) × (behind ≡ [])
+
+-- lines as they stand in a text
+abbrev pub AreLines : List TextLine → Type 0
+AreLines [] = Unit {0}
+AreLines (l ∷ ls) = (no_feed l.text ≡ true) × IsEnded l.ended l.text ls × AreLines ls

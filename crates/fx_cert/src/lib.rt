@@ -19,5 +19,8 @@ pub use limits::{
     limits_are_these,
 };
 pub use lines::lines_make_their_text;
-pub use reader::{certificate_is_read_exactly, read_cert, text_has_one_certificate};
+pub use numbers::numbers_are_read_exactly;
+pub use reader::{
+    certificate_is_read_exactly, fault_is_the_first, read_cert, text_has_one_certificate,
+};
 pub use writer::{write_cert, written_certificate_is_read};

@@ -2,7 +2,7 @@
 
 ghost use Rattle.std.specs.Prelude.{◌≡◌, [], option_map};
 ghost use Rattle.fx_math.specs.Answers.{Gives};
-ghost use Rattle.fx_cert.specs.Laws.{LinesLaw};
+ghost use Rattle.fx_cert.specs.Laws.{JoinedLaw, LinesLaw};
 ghost use Rattle.fx_cert.specs.Lines.{lines_of};
 ghost use Rattle.fx_cert.specs.Opened.{lines_with};
 ghost use Rattle.fx_cert.specs.Reading.{ended_line, is_memory};
@@ -40,7 +40,8 @@ pub(crate) fn ended_line(bytes: &[u8], line: u32) -> Result<(&[u8], &[u8]), Cert
     Ok((text, rest))
 }
 
-/// A law with nothing to run: the lines of a text make the text.
+/// A law with nothing to run: the lines of a text are lines and make the text, and lines are those of their text.
 pub fn lines_make_their_text()
-    ensures { LinesLaw }
+    ensures text { LinesLaw }
+    ensures lines { JoinedLaw }
 {}

@@ -3,6 +3,7 @@
 ghost use Rattle.std.specs.Prelude.{◌≡◌, ◌≤◌, ◌<◌, ◌^◌, IfOk, IfSome, option_map, pos};
 ghost use Rattle.fx_math.specs.Answers.{Gives};
 ghost use Rattle.fx_msb.specs.declared.widths.TheConstants.{GREATEST_BOUND};
+ghost use Rattle.fx_cert.specs.Laws.{NumberLaw};
 ghost use Rattle.fx_cert.specs.Reading.{behind, has_no_leading_zero, is_memory, number_behind, number_within, value_within};
 
 use crate::fault::CertFault;
@@ -85,3 +86,8 @@ pub(crate) fn number_behind(
     };
     Ok(number)
 }
+
+/// A law with nothing to run: a number is read exactly from its decimal, in its range.
+pub fn numbers_are_read_exactly()
+    ensures { NumberLaw }
+{}

@@ -4,7 +4,8 @@ ghost use Rattle.std.specs.Prelude.{◌≡◌, ◌≤◌, ◌<◌, length, pos, 
 ghost use Rattle.std.specs.Int.{w64, w128};
 ghost use Rattle.fx_math.specs.Answers.{Gives};
 ghost use Rattle.fx_cert.specs.Certificate.{Certificate, IsTextOf};
-ghost use Rattle.fx_cert.specs.Laws.{CertificateLaw, OneCertificate};
+ghost use Rattle.fx_cert.specs.FirstFault.{first_fault, passes};
+ghost use Rattle.fx_cert.specs.Laws.{CertificateLaw, FirstFaultLaw, OneCertificate};
 ghost use Rattle.fx_cert.specs.Lines.{lines_of};
 ghost use Rattle.fx_cert.specs.Reading.{behind_head, bound_at, bounds_in, certificate_in, each_at, end_at, error_at, errors_in, is_memory, length_in, numbered_at, outputs_at};
 
@@ -228,6 +229,8 @@ fn certificate_in(alloc: Global, bytes: &[u8]) -> Result<Cert, CertFault>
 pub fn read_cert(alloc: Global, bytes: &[u8]) -> Result<Cert, CertFault>
     // The certificate or the first fault.
     ensures read { Gives is_memory (λ c. c) result (certificate_in (lines_of bytes.now)) }
+    // No fault, or the first in the order of the lines.
+    ensures first { Gives is_memory (λ _. tt) result (passes (first_fault (lines_of bytes.now))) }
     // What is read has this text.
     ensures found { IfOk result (λ c. IsTextOf bytes.now c) }
     // What has this text is read, unless memory is refused.
@@ -239,6 +242,11 @@ pub fn read_cert(alloc: Global, bytes: &[u8]) -> Result<Cert, CertFault>
 /// A law with nothing to run: a certificate is read exactly from its text.
 pub fn certificate_is_read_exactly()
     ensures { CertificateLaw }
+{}
+
+/// A law with nothing to run: the fault that is read is the first in the order of the lines.
+pub fn fault_is_the_first()
+    ensures { FirstFaultLaw }
 {}
 
 /// A law with nothing to run: a text is that of at most one certificate.
