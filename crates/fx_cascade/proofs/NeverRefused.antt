@@ -55,7 +55,8 @@ df1_section_ascends : (cs : List Fraction) (n i : ℕ) → n ≤ 8 → i < n →
 df1_section_ascends cs n i few h =
     let s = single n (2 * n + 2) in
     ascends_append block_base s (1000 * i) (1000 * i + 100) (1000 * suc i) (taken_in i (b0 cs i) ∷ [])
-    (entry M i (2 * i) (b1 cs i) ∷ entry M i (2 * i + 1) (b2 cs i) ∷ entry M i (2 * i + 2) (minus (a1 cs i)) ∷ entry M i (2 * i + 3) (minus (a2 cs i)) ∷ [])
+    (entry M i (2 * i) (b1 cs i) ∷ entry M i (2 * i + 1) (b2 cs i) ∷ entry M i (2 * i + 2)
+    (minus (a1 cs i)) ∷ entry M i (2 * i + 3) (minus (a2 cs i)) ∷ [])
     (taken_ascends n (2 * n + 2) i (b0 cs i) h (omega arith)) (
       omega arith,
       record { row = h; column = omega arith; unit_lower = tt },
@@ -74,14 +75,17 @@ df2t_section_ascends : (cs : List Fraction) (n i : ℕ) → n ≤ 8 → i < n �
     Ascends block_base (single n (2 * n)) (1000 * i) (1000 * suc i) (df2t_section cs i)
 df2t_section_ascends cs n i few h =
     let s = single n (2 * n) in
-    ascends_append block_base s (1000 * i) (1000 * i + 100) (1000 * suc i) (taken_in i (b0 cs i) ∷ []) (entry M i (2 * i) one_fraction ∷ [])
+    ascends_append block_base s (1000 * i) (1000 * i + 100) (1000 * suc i) (taken_in i (b0 cs i) ∷ [])
+    (entry M i (2 * i) one_fraction ∷ [])
     (taken_ascends n (2 * n) i (b0 cs i) h (omega arith))
     (omega arith, record { row = h; column = omega arith; unit_lower = tt }, omega arith)
 
 state_ascends : (n row i : ℕ) (c : Fraction) → n ≤ 8 → i < n → row < 2 * n →
     Ascends block_base (single n (2 * n)) (1000100 + 1000 * row) (1000200 + 1000 * row + i) (state_takes row i c ∷ [])
-state_ascends n row zero c few h l = (omega arith, record { row = l; column = omega arith; unit_lower = tt }, omega arith)
-state_ascends n row (suc i) c few h l = (omega arith, record { row = l; column = omega arith; unit_lower = tt }, omega arith)
+state_ascends n row zero c few h l =
+    (omega arith, record { row = l; column = omega arith; unit_lower = tt }, omega arith)
+state_ascends n row (suc i) c few h l =
+    (omega arith, record { row = l; column = omega arith; unit_lower = tt }, omega arith)
 
 fed_ascends : (n row i : ℕ) (c : Fraction) → n ≤ 8 → i < n → row < 2 * n →
     Ascends block_base (single n (2 * n)) (1000200 + 1000 * row + i) (1001000 + 1000 * row) (entry K row i c ∷ [])
@@ -95,25 +99,33 @@ df2t_states_ascend cs n i few h =
     let next : ℕ = 2 * i + 1 in
     let low : row < 2 * n = omega arith in
     let high : next < 2 * n = omega arith in
-    ascends_append block_base s (1000000 + 2000 * i) (1001000 + 1000 * row) (1000000 + 2000 * suc i) (first_state cs i) (second_state cs i)
-    (ascends_append block_base s (1000000 + 2000 * i) (1000100 + 1000 * row) (1001000 + 1000 * row) (entry P row next one_fraction ∷ [])
+    ascends_append block_base s (1000000 + 2000 * i) (1001000 + 1000 * row) (1000000 + 2000 * suc i) (first_state cs i)
+    (second_state cs i)
+    (ascends_append block_base s (1000000 + 2000 * i) (1000100 + 1000 * row) (1001000 + 1000 * row)
+    (entry P row next one_fraction ∷ [])
     (state_takes row i (b1 cs i) ∷ entry K row i (minus (a1 cs i)) ∷ [])
     (omega arith, record { row = low; column = high; unit_lower = tt }, omega arith)
-    (ascends_append block_base s (1000100 + 1000 * row) (1000200 + 1000 * row + i) (1001000 + 1000 * row) (state_takes row i (b1 cs i) ∷ []) (entry K row i (minus (a1 cs i)) ∷ [])
+    (ascends_append block_base s (1000100 + 1000 * row) (1000200 + 1000 * row + i) (1001000 + 1000 * row)
+    (state_takes row i (b1 cs i) ∷ []) (entry K row i (minus (a1 cs i)) ∷ [])
     (state_ascends n row i (b1 cs i) few h low) (fed_ascends n row i (minus (a1 cs i)) few h low)))
-    (ascends_lower block_base s (1001000 + 1000 * row) (1000100 + 1000 * next) (1000000 + 2000 * suc i) (second_state cs i) (omega arith)
-    (ascends_append block_base s (1000100 + 1000 * next) (1000200 + 1000 * next + i) (1000000 + 2000 * suc i) (state_takes next i (b2 cs i) ∷ []) (entry K next i (minus (a2 cs i)) ∷ [])
+    (ascends_lower block_base s (1001000 + 1000 * row) (1000100 + 1000 * next) (1000000 + 2000 * suc i)
+    (second_state cs i) (omega arith)
+    (ascends_append block_base s (1000100 + 1000 * next) (1000200 + 1000 * next + i) (1000000 + 2000 * suc i)
+    (state_takes next i (b2 cs i) ∷ []) (entry K next i (minus (a2 cs i)) ∷ [])
     (state_ascends n next i (b2 cs i) few h high)
-    (ascends_higher block_base s (1000200 + 1000 * next + i) (1001000 + 1000 * next) (1000000 + 2000 * suc i) (entry K next i (minus (a2 cs i)) ∷ []) (omega arith)
+    (ascends_higher block_base s (1000200 + 1000 * next + i) (1001000 + 1000 * next) (1000000 + 2000 * suc i)
+    (entry K next i (minus (a2 cs i)) ∷ []) (omega arith)
     (fed_ascends n next i (minus (a2 cs i)) few h high))))
 
 last_ascends : (t x lo : ℕ) → 1 ≤ t → t ≤ 8 → lo ≤ 2000000 → Ascends block_base (single t x) lo 3000000 (last_section t)
-last_ascends t x lo some few h = (omega arith, record { row = omega arith; column = omega arith; unit_lower = tt }, omega arith)
+last_ascends t x lo some few h =
+    (omega arith, record { row = omega arith; column = omega arith; unit_lower = tt }, omega arith)
 
 -- ---- the first direct form
 
 df1_ascends : (cs : List Fraction) (n : ℕ) → CountFits n →
-    Ascends block_base (single n (2 * n + 2)) 0 3000000 (joined n (df1_section cs) ++ delays Q 0 0 2 ++ joined n df1_states ++ last_section n)
+    Ascends block_base (single n (2 * n + 2)) 0 3000000
+    (joined n (df1_section cs) ++ delays Q 0 0 2 ++ joined n df1_states ++ last_section n)
 df1_ascends cs n fits =
     let s = single n (2 * n + 2) in
     let some : 1 ≤ n = fits.some in
@@ -127,18 +139,21 @@ df1_ascends cs n fits =
     (ascends_append block_base s 0 1000000 1002000 variables inputs
     (ascends_higher block_base s 0 (1000 * n) 1000000 variables (omega arith)
     (joined_ascend block_base s (λ i. 1000 * i) n (df1_section cs) (λ i h. df1_section_ascends cs n i few h)))
-    (delays_ascend s Q 0 0 2 (λ i j c. tt) (omega arith) (omega arith) (omega arith) (omega arith) (omega arith) (omega arith) (omega arith)))
+    (delays_ascend s Q 0 0 2 (λ i j c. tt) (omega arith) (omega arith) (omega arith) (omega arith) (omega arith)
+    (omega arith) (omega arith)))
     (joined_ascend block_base s bound n df1_states (λ i h.
     let same : 1000000 + 1000 * ((2 * i + 2) + 2) ≡ bound (suc i) = omega arith in
     subst (λ m. Ascends block_base s (bound i) m (df1_states i)) same
-    (delays_ascend s K i (2 * i + 2) 2 (λ i j c. tt) (omega arith) (omega arith) (omega arith) (omega arith) h (omega arith) (omega arith)))))
+    (delays_ascend s K i (2 * i + 2) 2 (λ i j c. tt) (omega arith) (omega arith) (omega arith) (omega arith) h
+    (omega arith) (omega arith)))))
     (last_ascends n (2 * n + 2) (bound n) some few (omega arith))
 
 pub df1_fits : (cs : List Fraction) → SectionsFit cs → ImplicitFits (cascade_df1_form cs)
 df1_fits cs fits =
     let n = count_fits cs fits in
     let few = n.few in
-    fits_from block_base (cascade_df1_form cs) 3000000 (counts_fit (count_of cs) (2 * count_of cs + 2) (omega (arith, few)))
+    fits_from block_base (cascade_df1_form cs) 3000000
+    (counts_fit (count_of cs) (2 * count_of cs + 2) (omega (arith, few)))
     (df1_ascends cs (count_of cs) n)
 
 df1_count : (cs : List Fraction) (n : ℕ) → n ≤ 8 →
@@ -162,13 +177,15 @@ pub df1_never_refused : (cs : List Fraction) → SectionsFit cs → WhatFitsHasN
 df1_never_refused cs fits law =
     let n = count_fits cs fits in
     let few = n.few in
-    never_from block_base (cascade_df1_form cs) 3000000 (counts_fit (count_of cs) (2 * count_of cs + 2) (omega (arith, few)))
+    never_from block_base (cascade_df1_form cs) 3000000
+    (counts_fit (count_of cs) (2 * count_of cs + 2) (omega (arith, few)))
     (df1_count cs (count_of cs) few) (df1_ascends cs (count_of cs) n) law
 
 -- ---- the second direct form transposed
 
 df2t_ascends : (cs : List Fraction) (n : ℕ) → CountFits n →
-    Ascends block_base (single n (2 * n)) 0 3000000 (joined n (df2t_section cs) ++ joined n (df2t_states cs) ++ last_section n)
+    Ascends block_base (single n (2 * n)) 0 3000000
+    (joined n (df2t_section cs) ++ joined n (df2t_states cs) ++ last_section n)
 df2t_ascends cs n fits =
     let s = single n (2 * n) in
     let some : 1 ≤ n = fits.some in
@@ -187,7 +204,8 @@ pub df2t_fits : (cs : List Fraction) → SectionsFit cs → ImplicitFits (cascad
 df2t_fits cs fits =
     let n = count_fits cs fits in
     let few = n.few in
-    fits_from block_base (cascade_df2t_form cs) 3000000 (counts_fit (count_of cs) (2 * count_of cs) (omega (arith, few)))
+    fits_from block_base (cascade_df2t_form cs) 3000000
+    (counts_fit (count_of cs) (2 * count_of cs) (omega (arith, few)))
     (df2t_ascends cs (count_of cs) n)
 
 df2t_count : (cs : List Fraction) (n : ℕ) → n ≤ 8 →
@@ -204,9 +222,11 @@ df2t_count cs n few =
       few,
     )
 
-pub df2t_never_refused : (cs : List Fraction) → SectionsFit cs → WhatFitsHasNoFault → NeverRefused (cascade_df2t_form cs)
+pub df2t_never_refused : (cs : List Fraction) → SectionsFit cs → WhatFitsHasNoFault →
+    NeverRefused (cascade_df2t_form cs)
 df2t_never_refused cs fits law =
     let n = count_fits cs fits in
     let few = n.few in
-    never_from block_base (cascade_df2t_form cs) 3000000 (counts_fit (count_of cs) (2 * count_of cs) (omega (arith, few)))
+    never_from block_base (cascade_df2t_form cs) 3000000
+    (counts_fit (count_of cs) (2 * count_of cs) (omega (arith, few)))
     (df2t_count cs (count_of cs) few) (df2t_ascends cs (count_of cs) n) law

@@ -24,20 +24,25 @@ module _ (s : Sizes) (w : Fraction → ℤ) (x u : ℕ → ℕ → ℤ) (k : ℕ
       adds s w x u k r (joined n f) ≡ pos 0
   adds_no_part zero r f each = refl
   adds_no_part (suc n) r f each =
-      adds_first s w x u k r (joined n f) (f n) (each n (omega arith)) ∙ adds_no_part n r f (λ i h. each i (omega arith))
+      adds_first s w x u k r (joined n f) (f n) (each n (omega arith))
+      ∙ adds_no_part n r f (λ i h. each i (omega arith))
 
   pub adds_its_part : (n r : ℕ) (f : ℕ → List Entry) (j : ℕ) → j < n →
-      ((i : ℕ) → i < n → (i ≡ j → ⊥) → adds s w x u k r (f i) ≡ pos 0) → adds s w x u k r (joined n f) ≡ adds s w x u k r (f j)
+      ((i : ℕ) → i < n → (i ≡ j → ⊥) → adds s w x u k r (f i) ≡ pos 0) →
+      adds s w x u k r (joined n f) ≡ adds s w x u k r (f j)
   adds_its_part zero r f j h each = absurd (omega arith)
-  adds_its_part (suc n) r f j h each = by_place (λ below. adds_its_part n r f j below (λ i l other. each i (omega arith) other)) (cases_lt j n)
+  adds_its_part (suc n) r f j h each =
+      by_place (λ below. adds_its_part n r f j below (λ i l other. each i (omega arith) other)) (cases_lt j n)
     where
       by_place : (j < n → adds s w x u k r (joined n f) ≡ adds s w x u k r (f j)) → (j < n) ⊎ (n ≤ j) →
           adds s w x u k r (joined n f ++ f n) ≡ adds s w x u k r (f j)
       by_place earlier (inl below) =
-          adds_first s w x u k r (joined n f) (f n) (each n (omega arith) (λ same. omega (arith, same, below))) ∙ earlier below
+          adds_first s w x u k r (joined n f) (f n) (each n (omega arith) (λ same. omega (arith, same, below)))
+          ∙ earlier below
       by_place earlier (inr high) =
           let last : n ≡ j = omega arith in
-          adds_second s w x u k r (joined n f) (f n) (adds_no_part n r f (λ i l. each i (omega arith) (λ same. omega (arith, same, l, high))))
+          adds_second s w x u k r (joined n f) (f n)
+          (adds_no_part n r f (λ i l. each i (omega arith) (λ same. omega (arith, same, l, high))))
           ∙ ap (λ i. adds s w x u k r (f i)) last
 
 -- ---- what a section takes in
@@ -77,7 +82,8 @@ state_suits q row (suc i) c h = h refl
 
 -- ---- a row of the moment before
 
-pub before_is : (x : ℕ → ℕ → ℤ) (v : ℕ → ℤ) (last r l : ℕ) → ((k : ℕ) → k ≤ last → x k r ≡ ago v k l) → (k : ℕ) → k ≤ last →
+pub before_is : (x : ℕ → ℕ → ℤ) (v : ℕ → ℤ) (last r l : ℕ) → ((k : ℕ) → k ≤ last → x k r ≡ ago v k l) → (k : ℕ) →
+    k ≤ last →
     before x k r ≡ ago v k (suc l)
 before_is x v last r l held zero h = refl
 before_is x v last r l held (suc k) h = held k (omega arith)

@@ -62,14 +62,17 @@ MeetSections cs n w d last x u =
 
 module _ (cs : List Fraction) (n : ℕ) (w : Fraction → ℤ) (d last : ℕ) (x y u : ℕ → ℕ → ℤ) (positive : 0 < d)
     (of_x : MeetSections cs n w d last x u) (of_y : MeetSections cs n w d last y u) where
-  one_section : (i : ℕ) → i < n → ((k : ℕ) → k ≤ last → sequence x u (section_source i) k ≡ sequence y u (section_source i) k) →
+  one_section : (i : ℕ) → i < n →
+      ((k : ℕ) → k ≤ last → sequence x u (section_source i) k ≡ sequence y u (section_source i) k) →
       (k : ℕ) → k ≤ last → x k i ≡ y k i
   one_section i h taken k l =
-      same_sequence w d last (λ k. weigh w (sequence x u (section_source i)) k 0 (numerator_of cs i)) (λ k. x k i) (λ k. y k i)
+      same_sequence w d last (λ k. weigh w (sequence x u (section_source i)) k 0 (numerator_of cs i)) (λ k. x k i)
+      (λ k. y k i)
       (fed_back (denominator_of cs i)) positive (λ k l. of_x i k h l)
       (λ k l. of_y i k h l
       ∙ ap (λ a. a +ℤ weigh w (λ k. y k i) k 1 (fed_back (denominator_of cs i)))
-      (sym (weigh_same w (sequence x u (section_source i)) (sequence y u (section_source i)) k (numerator_of cs i) 0 (λ j b. taken j (omega arith)))))
+      (sym (weigh_same w (sequence x u (section_source i)) (sequence y u (section_source i)) k (numerator_of cs i) 0
+      (λ j b. taken j (omega arith)))))
       k l
 
   pub sections_same : (i : ℕ) → i < n → (k : ℕ) → k ≤ last → x k i ≡ y k i
@@ -92,7 +95,8 @@ behind_input zero = refl
 behind_input (suc j) = let e : 0 + j ≡ j = omega arith in ap Row e
 
 module _ (w : Fraction → ℤ) (y u : ℕ → ℕ → ℤ) (k i : ℕ) where
-  later_sections : (count row : ℕ) (from : Source) (cs : List Fraction) → i < row → lag_sum w y u k i (sections count row from cs) ≡ pos 0
+  later_sections : (count row : ℕ) (from : Source) (cs : List Fraction) → i < row →
+      lag_sum w y u k i (sections count row from cs) ≡ pos 0
   later_sections zero row from cs h = refl
   later_sections (suc count) row from cs h =
       let one = recursion row from (take 3 cs) (take 3 (drop 3 cs)) in
@@ -101,7 +105,8 @@ module _ (w : Fraction → ℤ) (y u : ℕ → ℕ → ℤ) (k i : ℕ) where
       ∙ lag_sum-other_recursion w y u k i row from (take 3 cs) (take 3 (drop 3 cs)) (λ same. omega (arith, same, h))
 
   its_section : (count row : ℕ) (from : Source) (cs : List Fraction) (j : ℕ) → j < count → row + j ≡ i →
-      lag_sum w y u k i (sections count row from cs) ≡ lag_sum w y u k i (recursion i (behind from row j) (numerator_of cs j) (denominator_of cs j))
+      lag_sum w y u k i (sections count row from cs)
+      ≡ lag_sum w y u k i (recursion i (behind from row j) (numerator_of cs j) (denominator_of cs j))
   its_section zero row from cs j h same = absurd (omega arith)
   its_section (suc count) row from cs zero h same =
       let one = recursion row from (take 3 cs) (take 3 (drop 3 cs)) in
@@ -114,14 +119,19 @@ module _ (w : Fraction → ℤ) (y u : ℕ → ℕ → ℤ) (k i : ℕ) where
       let rest = sections count (row + 1) (Row row) (drop 6 cs) in
       let at : 6 * j + 6 ≡ 6 * suc j = omega arith in
       let at_three : 6 * j + 3 + 6 ≡ 6 * suc j + 3 = omega arith in
-      let first : drop (6 * j) (drop 6 cs) ≡ drop (6 * suc j) cs = drop-drop (6 * j) 6 cs ∙ ap (λ n. drop n cs) (omega arith) in
-      let second : drop (6 * j + 3) (drop 6 cs) ≡ drop (6 * suc j + 3) cs = drop-drop (6 * j + 3) 6 cs ∙ ap (λ n. drop n cs) (omega arith) in
-      lag_sum-back w y u k i one rest (lag_sum-other_recursion w y u k i row from (take 3 cs) (take 3 (drop 3 cs)) (λ e. omega (arith, e, same)))
+      let first : drop (6 * j) (drop 6 cs) ≡ drop (6 * suc j) cs = drop-drop (6 * j) 6 cs
+      ∙ ap (λ n. drop n cs) (omega arith) in
+      let second : drop (6 * j + 3) (drop 6 cs) ≡ drop (6 * suc j + 3) cs = drop-drop (6 * j + 3) 6 cs
+      ∙ ap (λ n. drop n cs) (omega arith) in
+      lag_sum-back w y u k i one rest
+      (lag_sum-other_recursion w y u k i row from (take 3 cs) (take 3 (drop 3 cs)) (λ e. omega (arith, e, same)))
       ∙ its_section count (row + 1) (Row row) (drop 6 cs) j (omega arith) (omega arith)
-      ∙ ap (λ from. lag_sum w y u k i (recursion i from (numerator_of (drop 6 cs) j) (denominator_of (drop 6 cs) j))) (behind_is row j)
+      ∙ ap (λ from. lag_sum w y u k i (recursion i from (numerator_of (drop 6 cs) j) (denominator_of (drop 6 cs) j)))
+      (behind_is row j)
       ∙ ap₂ (λ b a. lag_sum w y u k i (recursion i (Row (row + j)) (take 3 b) (take 3 a))) first second
 
-pub equations_meet_sections : (cs : List Fraction) (q g last : ℕ) (y u : ℕ → ℕ → ℤ) → EquationsMeet (sos_equations cs) q g last y u →
+pub equations_meet_sections : (cs : List Fraction) (q g last : ℕ) (y u : ℕ → ℕ → ℤ) →
+    EquationsMeet (sos_equations cs) q g last y u →
     MeetSections cs (count_of cs) (weight q g) (q * g) last y u
 equations_meet_sections cs q g last y u theirs i k h l =
     let w = weight q g in
@@ -151,13 +161,17 @@ pub record SectionSuits (q : ℕ) (cs : List Fraction) (i : ℕ) : Type 0 where
   pub of_a1 : IsWholeOver q (plain (minus (a1 cs i)))
   pub of_a2 : IsWholeOver q (plain (minus (a2 cs i)))
 
-sections_suit : (q count row : ℕ) (from : Source) (cs : List Fraction) → ((i : ℕ) → i < count → Suits q (numerator_of cs i)) →
+sections_suit : (q count row : ℕ) (from : Source) (cs : List Fraction) →
+    ((i : ℕ) → i < count → Suits q (numerator_of cs i)) →
     ((i : ℕ) → i < count → Suits q (fed_back (denominator_of cs i))) → TermsSuit q (sections count row from cs)
 sections_suit q zero row from cs of_b of_a = All-nil (λ (t : Term). IsWholeOver q (plain t.coef))
 sections_suit q (suc count) row from cs of_b of_a =
-    let first : (j : ℕ) → drop (6 * suc j) cs ≡ drop (6 * j) (drop 6 cs) = λ j. sym (drop-drop (6 * j) 6 cs ∙ ap (λ n. drop n cs) (omega arith)) in
-    let second : (j : ℕ) → drop (6 * suc j + 3) cs ≡ drop (6 * j + 3) (drop 6 cs) = λ j. sym (drop-drop (6 * j + 3) 6 cs ∙ ap (λ n. drop n cs) (omega arith)) in
-    All-append (λ (t : Term). IsWholeOver q (plain t.coef)) (recursion row from (take 3 cs) (take 3 (drop 3 cs))) (sections count (row + 1) (Row row) (drop 6 cs))
+    let first : (j : ℕ) → drop (6 * suc j) cs
+    ≡ drop (6 * j) (drop 6 cs) = λ j. sym (drop-drop (6 * j) 6 cs ∙ ap (λ n. drop n cs) (omega arith)) in
+    let second : (j : ℕ) → drop (6 * suc j + 3) cs
+    ≡ drop (6 * j + 3) (drop 6 cs) = λ j. sym (drop-drop (6 * j + 3) 6 cs ∙ ap (λ n. drop n cs) (omega arith)) in
+    All-append (λ (t : Term). IsWholeOver q (plain t.coef)) (recursion row from (take 3 cs) (take 3 (drop 3 cs)))
+    (sections count (row + 1) (Row row) (drop 6 cs))
     (recursion_suits q row from (take 3 cs) (take 3 (drop 3 cs)) (of_b 0 (omega arith)) (of_a 0 (omega arith)))
     (sections_suit q count (row + 1) (Row row) (drop 6 cs)
     (λ j h. subst (λ xs. Suits q (take 3 xs)) (first j) (of_b (suc j) (omega arith)))
@@ -173,4 +187,5 @@ equations_suit q cs fits each =
     (All-cons W (b0 cs i) (b1 cs i ∷ b2 cs i ∷ []) (each i h).of_b0
     (All-cons W (b1 cs i) (b2 cs i ∷ []) (each i h).of_b1 (All-cons W (b2 cs i) [] (each i h).of_b2 (All-nil W)))))
     (λ i h. subst (Suits q) (sym (fed_back_is cs fits i h))
-    (All-cons W (minus (a1 cs i)) (minus (a2 cs i) ∷ []) (each i h).of_a1 (All-cons W (minus (a2 cs i)) [] (each i h).of_a2 (All-nil W)))))
+    (All-cons W (minus (a1 cs i)) (minus (a2 cs i) ∷ []) (each i h).of_a1
+    (All-cons W (minus (a2 cs i)) [] (each i h).of_a2 (All-nil W)))))

@@ -1,4 +1,5 @@
--- Second-order sections in one list, six coefficients each: b0, b1, b2, a0, a1, a2, of which a0 stands for 1 and is not read.
+-- Second-order sections in one list, six coefficients each: b0, b1, b2, a0, a1, a2, of which a0 stands for 1 and is not
+-- read.
 use Rattle.std.specs.Prelude.{◌≡◌, ℕ, ◌+◌, ◌*◌, ◌/◌, ◌≤◌, List, length}
 use Rattle.fx_nums.specs.Fraction.{Fraction}
 use Rattle.fx_eqs.specs.declared.limits.TheConstants.{SECTIONS}

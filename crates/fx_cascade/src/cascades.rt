@@ -1,6 +1,6 @@
 //! The two cascades.
 
-ghost use Rattle.std.specs.Prelude.{◌≡◌, ◌≤◌, ◌<◌, IfOk};
+ghost use Rattle.std.specs.Prelude.{◌≡◌, ◌≤◌, ◌<◌, ◌^◌, IfOk};
 ghost use Rattle.fx_eqs.specs.Textbook.{sos_equations};
 ghost use Rattle.fx_sif.specs.SameOutputs.{HasOutputs};
 ghost use Rattle.fx_cascade.specs.Cascades.{cascade_df1_form, cascade_df2t_form, single};
@@ -19,7 +19,7 @@ use std::alloc::{AllocError, Global};
 
 // One input and one output, with so many intermediate variables and states.
 fn single(t: usize, x: usize) -> Sizes
-    requires { (t < 100) × (x < 100) }
+    requires { (t < 2 ^ 8) × (x < 2 ^ 8) }
     ensures { result ≡ single t x }
 {
     Sizes {
@@ -30,9 +30,9 @@ fn single(t: usize, x: usize) -> Sizes
     }
 }
 
-/// One to `SECTIONS` second-order sections one behind the other, each in the first direct form. `sections` has b0, b1, b2, a0,
-/// a1 and a2 of each section; a0 stands for 1 and is not read. The states are the two earlier inputs, and then the two earlier
-/// values of each section. Its error is want of memory.
+/// One to `SECTIONS` second-order sections one behind the other, each in the first direct form. `sections`
+/// has b0, b1, b2, a0, a1 and a2 of each section; a0 stands for 1 and is not read. The states are the two
+/// earlier inputs, and then the two earlier values of each section. Its error is want of memory.
 pub fn cascade_df1(alloc: Global, sections: &[Frac]) -> Result<Sif, AllocError>
     requires { SectionsFit sections.now }
     ensures value { IfOk result (λ s. s ≡ cascade_df1_form sections.now) }
@@ -49,9 +49,9 @@ pub fn cascade_df1(alloc: Global, sections: &[Frac]) -> Result<Sif, AllocError>
     Sif::build_unrefused(alloc, single(count, 2 * count + 2), &entries)
 }
 
-/// One to `SECTIONS` second-order sections one behind the other, each in the second direct form transposed. `sections` has b0,
-/// b1, b2, a0, a1 and a2 of each section; a0 stands for 1 and is not read. Each section has two states, sums that are still to
-/// be put out. Its error is want of memory.
+/// One to `SECTIONS` second-order sections one behind the other, each in the second direct form transposed.
+/// `sections` has b0, b1, b2, a0, a1 and a2 of each section; a0 stands for 1 and is not read. Each section
+/// has two states, sums that are still to be put out. Its error is want of memory.
 pub fn cascade_df2t(alloc: Global, sections: &[Frac]) -> Result<Sif, AllocError>
     requires { SectionsFit sections.now }
     ensures value { IfOk result (λ s. s ≡ cascade_df2t_form sections.now) }

@@ -18,8 +18,8 @@ pub fn cascade_df1_is_never_refused(sections: &[Frac])
     what_fits_has_no_fault();
 }
 
-/// A law with nothing to run: the entries of `cascade_df2t` are never refused, and there are at most `EQUATION_TERMS` of
-/// fx_eqs.
+/// A law with nothing to run: the entries of `cascade_df2t` are never refused, and there are at most
+/// `EQUATION_TERMS` of fx_eqs.
 pub fn cascade_df2t_is_never_refused(sections: &[Frac])
     requires { SectionsFit sections.now }
     ensures { NeverRefused (cascade_df2t_form sections.now) }

@@ -77,7 +77,8 @@ module _ (b a : List Fraction) (low : 1 ≤ length b) (fits : ImplicitFits (df1_
       let part = (suited q denominator).0 in
       let first = entry N 0 0 (coefficient b 0) in
       let tail = across M 0 0 (drop 1 b) in
-      first_suits q b low (All-head (IsSuited q) first tail part refl) (across_suits q M 0 (drop 1 b) 0 (λ j. refl) (λ c. refl) (All-tail (IsSuited q) first tail part))
+      first_suits q b low (All-head (IsSuited q) first tail part refl)
+      (across_suits q M 0 (drop 1 b) 0 (λ j. refl) (λ c. refl) (All-tail (IsSuited q) first tail part))
 
   denominator : (q : ℕ) → IsDenominator (net_alone (df1_form b a)) q → Suits q (fed_back a)
   denominator q d = across_suits q M 0 (fed_back a) nb (λ j. refl) (λ c. refl) (suited q d).1
@@ -94,10 +95,12 @@ module _ (b a : List Fraction) (low : 1 ≤ length b) (fits : ImplicitFits (df1_
 
     -- the entries of states stand in no other row
     no_inputs : (k r : ℕ) → (r < 1) ⊎ (1 + nb ≤ r) → adds s w x u k r inputs_before ≡ pos 0
-    no_inputs k r apart = adds_no_row s w x u k (1 + 0) nb r (delay_row Q 0 0) each_input (λ i l same. elim apart [ inl h ↦ omega (arith, h, l, same) | inr h ↦ omega (arith, h, l, same) ])
+    no_inputs k r apart = adds_no_row s w x u k (1 + 0) nb r (delay_row Q 0 0) each_input
+        (λ i l same. elim apart [ inl h ↦ omega (arith, h, l, same) | inr h ↦ omega (arith, h, l, same) ])
 
     no_outputs : (k r : ℕ) → (r < 1 + nb) ⊎ (1 + (nb + na) ≤ r) → adds s w x u k r outputs_before ≡ pos 0
-    no_outputs k r apart = adds_no_row s w x u k (1 + nb) na r (delay_row K 0 nb) each_output (λ i l same. elim apart [ inl h ↦ omega (arith, h, l, same) | inr h ↦ omega (arith, h, l, same) ])
+    no_outputs k r apart = adds_no_row s w x u k (1 + nb) na r (delay_row K 0 nb) each_output
+        (λ i l same. elim apart [ inl h ↦ omega (arith, h, l, same) | inr h ↦ omega (arith, h, l, same) ])
 
     no_output : (k r : ℕ) → r < 1 + (nb + na) → adds s w x u k r output ≡ pos 0
     no_output k r h = adds_none s w x u k (1 + (nb + na) + 0) r output (λ same. omega (arith, h, same)) in_output
@@ -108,7 +111,8 @@ module _ (b a : List Fraction) (low : 1 ≤ length b) (fits : ImplicitFits (df1_
         ∙ adds_none s w x u k 0 r feed (λ same. omega (arith, h, same)) in_feed
 
     -- what stands in each row
-    input_row : (i k : ℕ) → i < nb → adds s w x u k (1 + (0 + i)) (df1_entries b a) ≡ all_add s w x u k (delay_row Q 0 0 i)
+    input_row : (i k : ℕ) → i < nb →
+        adds s w x u k (1 + (0 + i)) (df1_entries b a) ≡ all_add s w x u k (delay_row Q 0 0 i)
     input_row i k h =
         let r : ℕ = 1 + (0 + i) in
         adds_first s w x u k r (feed ++ back ++ inputs_before ++ outputs_before) output (no_output k r (omega arith))
@@ -116,12 +120,14 @@ module _ (b a : List Fraction) (low : 1 ≤ length b) (fits : ImplicitFits (df1_
         ∙ adds_second s w x u k r (feed ++ back) inputs_before (no_variable k r (omega arith))
         ∙ adds_its_row s w x u k (1 + 0) nb (delay_row Q 0 0) each_input i r h (omega arith)
 
-    output_row : (i k : ℕ) → i < na → adds s w x u k (1 + (nb + i)) (df1_entries b a) ≡ all_add s w x u k (delay_row K 0 nb i)
+    output_row : (i k : ℕ) → i < na →
+        adds s w x u k (1 + (nb + i)) (df1_entries b a) ≡ all_add s w x u k (delay_row K 0 nb i)
     output_row i k h =
         let r : ℕ = 1 + (nb + i) in
         adds_first s w x u k r (feed ++ back ++ inputs_before ++ outputs_before) output (no_output k r (omega arith))
         ∙ adds_second s w x u k r (feed ++ back ++ inputs_before) outputs_before
-        (adds_first s w x u k r (feed ++ back) inputs_before (no_inputs k r (inr (omega arith))) ∙ no_variable k r (omega arith))
+        (adds_first s w x u k r (feed ++ back) inputs_before (no_inputs k r (inr (omega arith)))
+        ∙ no_variable k r (omega arith))
         ∙ adds_its_row s w x u k (1 + nb) na (delay_row K 0 nb) each_output i r h (omega arith)
 
     variable_row : (k : ℕ) → adds s w x u k 0 (df1_entries b a) ≡ all_add s w x u k feed +ℤ all_add s w x u k back
@@ -142,10 +148,12 @@ module _ (b a : List Fraction) (low : 1 ≤ length b) (fits : ImplicitFits (df1_
         ∙ adds_here s w x u k (1 + (nb + na) + 0) output in_output
 
     held_inputs : (i k : ℕ) → k ≤ last → i < nb → x k (1 + (0 + i)) ≡ ago v k i
-    held_inputs = delayed (df1_form b a) q g last x u positive meet Q 0 v 0 nb input_row (λ k h. refl) refl (omega arith)
+    held_inputs = delayed (df1_form b a) q g last x u positive meet Q 0 v 0 nb input_row (λ k h. refl) refl
+        (omega arith)
 
     held_outputs : (i k : ℕ) → k ≤ last → i < na → x k (1 + (nb + i)) ≡ ago t k i
-    held_outputs = delayed (df1_form b a) q g last x u positive meet K 0 t nb na output_row (λ k h. refl) refl (omega arith)
+    held_outputs = delayed (df1_form b a) q g last x u positive meet K 0 t nb na output_row (λ k h. refl) refl
+        (omega arith)
 
     variable_meets : (k : ℕ) → k ≤ last → MeetsAt w (q * g) b a v t k
     variable_meets k h =
@@ -154,21 +162,30 @@ module _ (b a : List Fraction) (low : 1 ≤ length b) (fits : ImplicitFits (df1_
         meet k 0 h (omega arith)
         ∙ variable_row k
         ∙ ap₂ (λ y z. (w (coefficient b 0) *ℤ v k +ℤ y) +ℤ z)
-        (over_states (df1_form b a) q g last x u M v 0 nb (λ j. refl) (λ c. refl) held_inputs k 0 (drop 1 b) 0 0 h refl few)
-        (over_states (df1_form b a) q g last x u M t nb na (λ j. refl) (λ c. refl) held_outputs k 0 (fed_back a) 0 nb h (omega arith) few_back)
+        (over_states (df1_form b a) q g last x u M v 0 nb (λ j. refl) (λ c. refl) held_inputs k 0
+        (drop 1 b) 0 0 h refl few)
+        (over_states (df1_form b a) q g last x u M t nb na (λ j. refl) (λ c. refl) held_outputs k 0 (fed_back a) 0 nb h
+        (omega arith) few_back)
         ∙ ap (λ y. y +ℤ weigh w t k 1 (fed_back a)) (first_lag w v k b low)
 
     output_is : (k : ℕ) → k ≤ last → x k (1 + (nb + na) + 0) ≡ t k
-    output_is k h = cancelled (q * g) (x k (1 + (nb + na) + 0)) (t k) positive (meet k (1 + (nb + na) + 0) h (omega arith) ∙ last_row k (1 + (nb + na) + 0) refl ∙ alone q g (t k))
+    output_is k h = cancelled (q * g) (x k (1 + (nb + na) + 0)) (t k) positive
+        (meet k (1 + (nb + na) + 0) h (omega arith) ∙ last_row k (1 + (nb + na) + 0) refl ∙ alone q g (t k))
 
-  meets : (q g last : ℕ) (x u : ℕ → ℕ → ℤ) → 0 < q * g → RowsMeet (df1_form b a) q g last x u → (k : ℕ) → k ≤ last → MeetsAt (weight q g) (q * g) b a (λ k. u k 0) (λ k. x k (1 + (nb + na) + 0)) k
+  meets : (q g last : ℕ) (x u : ℕ → ℕ → ℤ) → 0 < q * g → RowsMeet (df1_form b a) q g last x u → (k : ℕ) → k ≤ last →
+      MeetsAt (weight q g) (q * g) b a (λ k. u k 0) (λ k. x k (1 + (nb + na) + 0)) k
   meets q g last x u positive meet k h =
       meets_too (weight q g) (q * g) b a (λ k. u k 0) (λ k. x k 0) (λ k. x k (1 + (nb + na) + 0)) k
       (λ j l. output_is q g last x u positive meet j (omega arith))
       (variable_meets q g last x u positive meet k h)
 
-  pub df1_outputs : HasOutputs (df1_form b a) (tf_equations b a)
-  df1_outputs = has_outputs (df1_form b a) b a fits (record { inputs = refl; outputs = refl; numerator = numerator; denominator = denominator; meets = meets })
+  pub df1_outputs : length b ≤ COEFFICIENTS → length a ≤ COEFFICIENTS → HasOutputs (df1_form b a) (tf_equations b a)
+  df1_outputs short_b short_a =
+      has_outputs (df1_form b a) b a short_b short_a fits
+      (record { inputs = refl; outputs = refl; numerator = numerator; denominator = denominator; meets = meets })
 
-pub df1_has_outputs : (b a : List Fraction) → 1 ≤ length b → length b ≤ COEFFICIENTS → length a ≤ COEFFICIENTS → HasOutputs (df1_form b a) (tf_equations b a)
-df1_has_outputs b a low high high_back = df1_outputs b a low (single_fits 1 (order b + order a) (df1_entries b a) (df1_ascends b a high high_back) (omega arith))
+pub df1_has_outputs : (b a : List Fraction) → 1 ≤ length b → length b ≤ COEFFICIENTS → length a ≤ COEFFICIENTS →
+    HasOutputs (df1_form b a) (tf_equations b a)
+df1_has_outputs b a low high high_back =
+    df1_outputs b a low (single_fits 1 (order b + order a) (df1_entries b a) (df1_ascends b a high high_back)
+    (omega arith)) high high_back

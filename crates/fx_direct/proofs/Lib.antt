@@ -1,10 +1,7 @@
-mod Exact
-mod Feedback
 mod FirstForm
 mod NeverRefused
 mod Outputs
 mod Rows
 mod SecondForm
-mod Transfer
 mod Transposed
 mod WithoutFeedback

@@ -1,4 +1,5 @@
--- The second direct form puts out what its equations put out: feedback first and then the numerator gives the same as the
+-- The second direct form puts out what its equations put out: feedback first and then the numerator gives the same as
+-- the
 -- numerator first.
 use Rattle.std.proofs.Common.{◌≡◌, ℕ, ◌+◌, ◌*◌, ◌<◌, ◌≤◌, ◌⊎◌, inl, inr, max, List, ◌∷◌, ◌++◌, length, length-drop, drop, refl, arith, sym, ap, ap₂, ◌∙◌}
 use Rattle.std.proofs.Math.IntN.{ℤ, pos, ◌+ℤ◌, ◌*ℤ◌}
@@ -32,7 +33,8 @@ use Rattle.fx_sif.proofs.Recursion.{fed_back, MeetsAt, first_lag}
 
 -- Where t is the input with the feedback over t itself, and y is the numerator over t, y meets the recursion.
 numerator_last : (w : Fraction → ℤ) (d : ℕ) (b a : List Fraction) (u t y : ℕ → ℤ) (k : ℕ) → 0 < d →
-    ((j : ℕ) → j ≤ k → pos d *ℤ t j ≡ pos d *ℤ u j +ℤ weigh w t j 1 (fed_back a)) → ((j : ℕ) → j ≤ k → pos d *ℤ y j ≡ weigh w t j 0 b) → MeetsAt w d b a u y k
+    ((j : ℕ) → j ≤ k → pos d *ℤ t j ≡ pos d *ℤ u j +ℤ weigh w t j 1 (fed_back a)) →
+    ((j : ℕ) → j ≤ k → pos d *ℤ y j ≡ weigh w t j 0 b) → MeetsAt w d b a u y k
 numerator_last w d b a u t y k positive of_t of_y =
     let e : ℤ = pos d in
     let fed = fed_back a in
@@ -45,7 +47,9 @@ numerator_last w d b a u t y k positive of_t of_y =
     ∙ weigh_sum w (λ j. e *ℤ u j) (λ j. weigh w t j 1 fed) k b 0
     ∙ ap₂ (λ p r. p +ℤ r)
     (weigh_scaled w e u k b 0)
-    (sym (weigh_exchanged w t k b 0 fed 1) ∙ weigh_same w (λ j. weigh w t j 0 b) (λ j. e *ℤ y j) k fed 1 (λ j h. sym (of_y j h)) ∙ weigh_scaled w e y k fed 1)
+    (sym (weigh_exchanged w t k b 0 fed 1)
+    ∙ weigh_same w (λ j. weigh w t j 0 b) (λ j. e *ℤ y j) k fed 1 (λ j h. sym (of_y j h))
+    ∙ weigh_scaled w e y k fed 1)
     ∙ sym (mul-add e inputs outputs))
 
 -- ---- the rows
@@ -54,10 +58,12 @@ numerator_last w d b a u t y k positive of_t of_y =
 abbrev form_with : List Fraction → List Fraction → ℕ → Implicit
 form_with b a n = record {
   sizes = single 1 n;
-  entries = (entry N 0 0 one_fraction ∷ across M 0 0 (fed_back a)) ++ delays K 0 0 n ++ (entry L 0 0 (coefficient b 0) ∷ across R 0 0 (drop 1 b));
+  entries = (entry N 0 0 one_fraction ∷ across M 0 0 (fed_back a)) ++ delays K 0 0 n
+      ++ (entry L 0 0 (coefficient b 0) ∷ across R 0 0 (drop 1 b));
 }
 
-module _ (b a : List Fraction) (n : ℕ) (low : 1 ≤ length b) (wide : Greater n (order b) (order a)) (fits : ImplicitFits (form_with b a n)) where
+module _ (b a : List Fraction) (n : ℕ) (low : 1 ≤ length b) (wide : Greater n (order b) (order a))
+    (fits : ImplicitFits (form_with b a n)) where
   abbrev s : Sizes
   s = single 1 n
 
@@ -84,15 +90,18 @@ module _ (b a : List Fraction) (n : ℕ) (low : 1 ≤ length b) (wide : Greater 
       let part = (all_of_both (IsSuited q) (variable ++ states) output (entries_suited (form_with b a n) fits q d)).1 in
       let first = entry L 0 0 (coefficient b 0) in
       let tail = across R 0 0 (drop 1 b) in
-      first_suits q b low (All-head (IsSuited q) first tail part refl) (across_suits q R 0 (drop 1 b) 0 (λ j. refl) (λ c. refl) (All-tail (IsSuited q) first tail part))
+      first_suits q b low (All-head (IsSuited q) first tail part refl)
+      (across_suits q R 0 (drop 1 b) 0 (λ j. refl) (λ c. refl) (All-tail (IsSuited q) first tail part))
 
   denominator : (q : ℕ) → IsDenominator (net_alone (form_with b a n)) q → Suits q (fed_back a)
   denominator q d =
       let rows = (all_of_both (IsSuited q) (variable ++ states) output (entries_suited (form_with b a n) fits q d)).0 in
       let part = (all_of_both (IsSuited q) variable states rows).0 in
-      across_suits q M 0 (fed_back a) 0 (λ j. refl) (λ c. refl) (All-tail (IsSuited q) (entry N 0 0 one_fraction) (across M 0 0 (fed_back a)) part)
+      across_suits q M 0 (fed_back a) 0 (λ j. refl) (λ c. refl)
+      (All-tail (IsSuited q) (entry N 0 0 one_fraction) (across M 0 0 (fed_back a)) part)
 
-  module _ (q g last : ℕ) (x u : ℕ → ℕ → ℤ) (positive : 0 < q * g) (meet : RowsMeet (form_with b a n) q g last x u) where
+  module _ (q g last : ℕ) (x u : ℕ → ℕ → ℤ) (positive : 0 < q * g)
+      (meet : RowsMeet (form_with b a n) q g last x u) where
     abbrev w : Fraction → ℤ
     w = weight q g
 
@@ -100,7 +109,8 @@ module _ (b a : List Fraction) (n : ℕ) (low : 1 ≤ length b) (wide : Greater 
     t k = x k 0
 
     no_states : (k r : ℕ) → (r < 1) ⊎ (1 + n ≤ r) → adds s w x u k r states ≡ pos 0
-    no_states k r apart = adds_no_row s w x u k (1 + 0) n r (delay_row K 0 0) each_state (λ i l same. elim apart [ inl h ↦ omega (arith, h, l, same) | inr h ↦ omega (arith, h, l, same) ])
+    no_states k r apart = adds_no_row s w x u k (1 + 0) n r (delay_row K 0 0) each_state
+        (λ i l same. elim apart [ inl h ↦ omega (arith, h, l, same) | inr h ↦ omega (arith, h, l, same) ])
 
     no_output : (k r : ℕ) → r < 1 + n → adds s w x u k r output ≡ pos 0
     no_output k r h = adds_none s w x u k (1 + n + 0) r output (λ same. omega (arith, h, same)) in_output
@@ -108,7 +118,8 @@ module _ (b a : List Fraction) (n : ℕ) (low : 1 ≤ length b) (wide : Greater 
     no_variable : (k r : ℕ) → 0 < r → adds s w x u k r variable ≡ pos 0
     no_variable k r h = adds_none s w x u k 0 r variable (λ same. omega (arith, h, same)) in_variable
 
-    state_row : (i k : ℕ) → i < n → adds s w x u k (1 + (0 + i)) (form_with b a n).entries ≡ all_add s w x u k (delay_row K 0 0 i)
+    state_row : (i k : ℕ) → i < n →
+        adds s w x u k (1 + (0 + i)) (form_with b a n).entries ≡ all_add s w x u k (delay_row K 0 0 i)
     state_row i k h =
         let r : ℕ = 1 + (0 + i) in
         adds_first s w x u k r (variable ++ states) output (no_output k r (omega arith))
@@ -120,35 +131,46 @@ module _ (b a : List Fraction) (n : ℕ) (low : 1 ≤ length b) (wide : Greater 
 
     of_variable : (k : ℕ) → k ≤ last → pos (q * g) *ℤ t k ≡ pos (q * g) *ℤ u k 0 +ℤ weigh w t k 1 (fed_back a)
     of_variable k h =
-        let few : 0 + length (fed_back a) ≤ n = (let high = wide.right in omega (arith, high, length-map (drop 1 a) minus, length-drop 1 a)) in
+        let few : 0 + length (fed_back a) ≤ n =
+        (let high = wide.right in omega (arith, high, length-map (drop 1 a) minus, length-drop 1 a)) in
         meet k 0 h (omega arith)
         ∙ adds_first s w x u k 0 (variable ++ states) output (no_output k 0 (omega arith))
         ∙ adds_first s w x u k 0 variable states (no_states k 0 (inl (omega arith)))
         ∙ adds_here s w x u k 0 variable in_variable
-        ∙ ap₂ (λ c y. c *ℤ u k 0 +ℤ y) (one_weighs q g) (over_states (form_with b a n) q g last x u M t 0 n (λ j. refl) (λ c. refl) held k 0 (fed_back a) 0 0 h refl few)
+        ∙ ap₂ (λ c y. c *ℤ u k 0 +ℤ y) (one_weighs q g)
+        (over_states (form_with b a n) q g last x u M t 0 n (λ j. refl) (λ c. refl) held k 0
+        (fed_back a) 0 0 h refl few)
 
     of_output : (k : ℕ) → k ≤ last → pos (q * g) *ℤ x k (1 + n + 0) ≡ weigh w t k 0 b
     of_output k h =
         let r : ℕ = 1 + n + 0 in
         let few : 0 + length (drop 1 b) ≤ n = (let high = wide.left in omega (arith, high, length-drop 1 b)) in
         meet k r h (omega arith)
-        ∙ adds_second s w x u k r (variable ++ states) output (adds_first s w x u k r variable states (no_states k r (inr (omega arith))) ∙ no_variable k r (omega arith))
+        ∙ adds_second s w x u k r (variable ++ states) output
+        (adds_first s w x u k r variable states (no_states k r (inr (omega arith))) ∙ no_variable k r (omega arith))
         ∙ adds_here s w x u k r output in_output
-        ∙ ap (λ y. w (coefficient b 0) *ℤ t k +ℤ y) (over_states (form_with b a n) q g last x u R t 0 n (λ j. refl) (λ c. refl) held k 0 (drop 1 b) 0 0 h refl few)
+        ∙ ap (λ y. w (coefficient b 0) *ℤ t k +ℤ y)
+        (over_states (form_with b a n) q g last x u R t 0 n (λ j. refl) (λ c. refl) held k 0
+        (drop 1 b) 0 0 h refl few)
         ∙ first_lag w t k b low
 
-  meets : (q g last : ℕ) (x u : ℕ → ℕ → ℤ) → 0 < q * g → RowsMeet (form_with b a n) q g last x u → (k : ℕ) → k ≤ last → MeetsAt (weight q g) (q * g) b a (λ k. u k 0) (λ k. x k (1 + n + 0)) k
+  meets : (q g last : ℕ) (x u : ℕ → ℕ → ℤ) → 0 < q * g → RowsMeet (form_with b a n) q g last x u → (k : ℕ) → k ≤ last →
+      MeetsAt (weight q g) (q * g) b a (λ k. u k 0) (λ k. x k (1 + n + 0)) k
   meets q g last x u positive meet k h =
       numerator_last (weight q g) (q * g) b a (λ k. u k 0) (λ k. x k 0) (λ k. x k (1 + n + 0)) k positive
       (λ j l. of_variable q g last x u positive meet j (omega arith))
       (λ j l. of_output q g last x u positive meet j (omega arith))
 
-  pub df2_outputs : HasOutputs (form_with b a n) (tf_equations b a)
-  df2_outputs = has_outputs (form_with b a n) b a fits (record { inputs = refl; outputs = refl; numerator = numerator; denominator = denominator; meets = meets })
+  pub df2_outputs : length b ≤ COEFFICIENTS → length a ≤ COEFFICIENTS → HasOutputs (form_with b a n) (tf_equations b a)
+  df2_outputs short_b short_a =
+      has_outputs (form_with b a n) b a short_b short_a fits
+      (record { inputs = refl; outputs = refl; numerator = numerator; denominator = denominator; meets = meets })
 
-pub df2_has_outputs : (b a : List Fraction) → 1 ≤ length b → length b ≤ COEFFICIENTS → length a ≤ COEFFICIENTS → HasOutputs (df2_form b a) (tf_equations b a)
+pub df2_has_outputs : (b a : List Fraction) → 1 ≤ length b → length b ≤ COEFFICIENTS → length a ≤ COEFFICIENTS →
+    HasOutputs (df2_form b a) (tf_equations b a)
 df2_has_outputs b a low high high_back =
     let n : ℕ = max (order b) (order a) in
     let wide = greater_order b a high high_back in
     let few : n ≤ 12 = wide.high in
-    df2_outputs b a n low wide (single_fits 1 n (form_with b a n).entries (df2_ascends b a n wide) (omega arith))
+    df2_outputs b a n low wide
+    (single_fits 1 n (form_with b a n).entries (df2_ascends b a n wide) (omega arith)) high high_back

@@ -1,5 +1,5 @@
 -- The form without feedback puts out what its equations put out.
-use Rattle.std.proofs.Common.{◌≡◌, ℕ, ◌+◌, ◌*◌, ◌<◌, ◌≤◌, List, [], ◌∷◌, length, drop, length-drop, refl, arith, ap, ◌∙◌}
+use Rattle.std.proofs.Common.{◌≡◌, ℕ, ◌+◌, ◌*◌, ◌<◌, ◌≤◌, List, [], ◌∷◌, length, drop, length-drop, refl, arith, lit≤, ap, ◌∙◌}
 use Rattle.std.proofs.Math.IntN.{ℤ, pos, ◌+ℤ◌, ◌*ℤ◌}
 use Rattle.std.proofs.lemmas.Int.{ints}
 use Rattle.std.proofs.lemmas.List.Elements.{All-head, All-tail, All-nil}
@@ -50,26 +50,35 @@ module _ (b : List Fraction) (low : 1 ≤ length b) (fits : ImplicitFits (fir_fo
       let tail = across R 0 0 (drop 1 b) in
       first_suits q b low
       (All-head (IsSuited q) (entry S 0 0 (coefficient b 0)) tail part refl)
-      (across_suits q R 0 (drop 1 b) 0 (λ j. refl) (λ c. refl) (All-tail (IsSuited q) (entry S 0 0 (coefficient b 0)) tail part))
+      (across_suits q R 0 (drop 1 b) 0 (λ j. refl) (λ c. refl)
+      (All-tail (IsSuited q) (entry S 0 0 (coefficient b 0)) tail part))
 
-  meets : (q g last : ℕ) (x u : ℕ → ℕ → ℤ) → 0 < q * g → RowsMeet (fir_form b) q g last x u → (k : ℕ) → k ≤ last → MeetsAt (weight q g) (q * g) b (one_fraction ∷ []) (λ k. u k 0) (λ k. x k (0 + order b + 0)) k
+  meets : (q g last : ℕ) (x u : ℕ → ℕ → ℤ) → 0 < q * g → RowsMeet (fir_form b) q g last x u → (k : ℕ) → k ≤ last →
+      MeetsAt (weight q g) (q * g) b (one_fraction ∷ []) (λ k. u k 0) (λ k. x k (0 + order b + 0)) k
   meets q g last x u positive meet k h =
       let w = weight q g in
       let v : ℕ → ℤ = λ k. u k 0 in
-      let state_row : (i k : ℕ) → i < order b → adds s w x u k (0 + (0 + i)) (fir_entries b) ≡ all_add s w x u k (delay_row Q 0 0 i) =
-      (λ i k l. adds_first s w x u k (0 + (0 + i)) states output (adds_none s w x u k (0 + order b + 0) (0 + (0 + i)) output (λ same. omega (arith, same, l)) in_output)
+      let state_row : (i k : ℕ) → i < order b →
+      adds s w x u k (0 + (0 + i)) (fir_entries b) ≡ all_add s w x u k (delay_row Q 0 0 i) =
+      (λ i k l. adds_first s w x u k (0 + (0 + i)) states output
+      (adds_none s w x u k (0 + order b + 0) (0 + (0 + i)) output (λ same. omega (arith, same, l)) in_output)
       ∙ adds_its_row s w x u k 0 (order b) (delay_row Q 0 0) each_state i (0 + (0 + i)) l (omega arith)) in
-      let held = delayed (fir_form b) q g last x u positive meet Q 0 v 0 (order b) state_row (λ k h. refl) refl (omega arith) in
+      let held = delayed (fir_form b) q g last x u positive meet Q 0 v 0 (order b) state_row (λ k h. refl) refl
+      (omega arith) in
       let count : 0 + length (drop 1 b) ≤ order b = omega (arith, length-drop 1 b) in
       meet k (0 + order b + 0) h (omega arith)
-      ∙ adds_second s w x u k (0 + order b + 0) states output (adds_no_row s w x u k 0 (order b) (0 + order b + 0) (delay_row Q 0 0) each_state (λ i l same. omega (arith, l, same)))
+      ∙ adds_second s w x u k (0 + order b + 0) states output
+      (adds_no_row s w x u k 0 (order b) (0 + order b + 0) (delay_row Q 0 0) each_state
+      (λ i l same. omega (arith, l, same)))
       ∙ adds_here s w x u k (0 + order b + 0) output in_output
-      ∙ ap (λ y. w (coefficient b 0) *ℤ v k +ℤ y) (over_states (fir_form b) q g last x u R v 0 (order b) (λ j. refl) (λ c. refl) held k 0 (drop 1 b) 0 0 h refl count)
+      ∙ ap (λ y. w (coefficient b 0) *ℤ v k +ℤ y)
+      (over_states (fir_form b) q g last x u R v 0 (order b) (λ j. refl) (λ c. refl) held k 0
+      (drop 1 b) 0 0 h refl count)
       ∙ first_lag w v k b low
       ∙ no_feedback (weigh w v k 0 b)
 
-  pub fir_outputs : HasOutputs (fir_form b) (tf_equations b (one_fraction ∷ []))
-  fir_outputs = has_outputs (fir_form b) b (one_fraction ∷ []) fits (record {
+  pub fir_outputs : length b ≤ COEFFICIENTS → HasOutputs (fir_form b) (tf_equations b (one_fraction ∷ []))
+  fir_outputs short = has_outputs (fir_form b) b (one_fraction ∷ []) short (lit≤ tt) fits (record {
     inputs = refl;
     outputs = refl;
     numerator = suits;
@@ -77,5 +86,7 @@ module _ (b : List Fraction) (low : 1 ≤ length b) (fits : ImplicitFits (fir_fo
     meets = meets;
   })
 
-pub fir_has_outputs : (b : List Fraction) → 1 ≤ length b → length b ≤ COEFFICIENTS → HasOutputs (fir_form b) (tf_equations b (one_fraction ∷ []))
-fir_has_outputs b low high = fir_outputs b low (single_fits 0 (order b) (fir_entries b) (fir_ascends b high) (omega arith))
+pub fir_has_outputs : (b : List Fraction) → 1 ≤ length b → length b ≤ COEFFICIENTS →
+    HasOutputs (fir_form b) (tf_equations b (one_fraction ∷ []))
+fir_has_outputs b low high =
+    fir_outputs b low (single_fits 0 (order b) (fir_entries b) (fir_ascends b high) (omega arith)) high

@@ -4,6 +4,7 @@ use Rattle.std.specs.Prelude.{ℕ, ◌+◌, ◌-◌, max, nat_lt, cond, List, []
 use Rattle.fx_math.specs.Sums.{joined}
 use Rattle.fx_nums.specs.Fraction.{Fraction, one_fraction, minus}
 use Rattle.fx_sif.specs.Implicit.{Implicit}
+use Rattle.fx_sif.specs.declared.parts.Block.{Block}
 use Rattle.fx_sif.specs.declared.parts.Block.TheVariants.{K, L, M, N, P, Q, R, S}
 use Rattle.fx_sif.specs.declared.parts.Entry.{Entry}
 use Rattle.fx_sif.specs.declared.parts.Sizes.{Sizes}
@@ -16,6 +17,10 @@ order cs = length cs - 1
 -- one input and one output
 abbrev pub single : ℕ → ℕ → Sizes
 single t x = record { t = t; x = x; u = 1; y = 1 }
+
+-- a row over the numerator: its first coefficient in one block, the others in another
+abbrev pub numerator_row : Block → Block → List Fraction → List Entry
+numerator_row direct states b = entry direct 0 0 (coefficient b 0) ∷ across states 0 0 (drop 1 b)
 
 -- ---- no t; p_1' = u, p_i' = p_(i-1); y = b_0 u + sum b_i p_i
 

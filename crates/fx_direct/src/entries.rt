@@ -3,7 +3,7 @@
 ghost use Rattle.std.specs.Prelude.{◌≡◌, ◌≤◌, ◌<◌, ◌+◌, ◌++◌, [], ◌∷◌, drop, length, max, OnOk};
 ghost use Rattle.fx_math.specs.Sums.{joined};
 ghost use Rattle.fx_sif.specs.Entries.{across, coefficient, entry};
-ghost use Rattle.fx_direct.specs.Forms.{df2t_row, first_state};
+ghost use Rattle.fx_direct.specs.Forms.{df2t_row, first_state, numerator_row};
 
 use fx_eqs::COEFFICIENTS;
 use fx_nums::Frac;
@@ -19,7 +19,7 @@ pub fn numerator(
 ) -> Result<(), AllocError>
     requires low { 1 ≤ length b.now }
     requires high { length b.now ≤ COEFFICIENTS }
-    ensures { OnOk result (entries.new.items ≡ entries.old.items ++ (entry direct 0 0 (coefficient b.now 0) ∷ across states 0 0 (drop 1 b.now))) }
+    ensures { OnOk result (entries.new.items ≡ entries.old.items ++ numerator_row direct states b.now) }
 {
     add_entry(entries, direct, 0, 0, coefficient(b, 0))?;
     add_across(entries, states, 0, 0, &b[1..])
@@ -33,7 +33,7 @@ fn transposed_state(
     count: usize,
     i: usize,
 ) -> Result<(), AllocError>
-    requires { (i < count) × (count < 100) }
+    requires { (i < count) × (count < COEFFICIENTS) }
     ensures { OnOk result (entries.new.items ≡ entries.old.items ++ df2t_row b.now a.now count i) }
 {
     if i + 1 < count {
@@ -51,7 +51,7 @@ pub fn transposed_states(
     a: &[Frac],
     count: usize,
 ) -> Result<(), AllocError>
-    requires { count < 100 }
+    requires { count < COEFFICIENTS }
     ensures { OnOk result (entries.new.items ≡ entries.old.items ++ joined count (df2t_row b.now a.now count)) }
 {
     for i in 0..count {

@@ -1,6 +1,6 @@
 //! The four direct forms.
 
-ghost use Rattle.std.specs.Prelude.{◌≡◌, ◌≤◌, ◌<◌, ◌+◌, [], ◌∷◌, length, IfOk};
+ghost use Rattle.std.specs.Prelude.{◌≡◌, ◌≤◌, ◌<◌, ◌+◌, ◌^◌, [], ◌∷◌, length, IfOk};
 ghost use Rattle.fx_nums.specs.Fraction.{one_fraction};
 ghost use Rattle.fx_eqs.specs.Textbook.{tf_equations};
 ghost use Rattle.fx_sif.specs.SameOutputs.{HasOutputs};
@@ -18,7 +18,7 @@ use std::alloc::{AllocError, Global};
 
 // One input and one output, with so many intermediate variables and states.
 fn single(t: usize, x: usize) -> Sizes
-    requires { (t < 100) × (x < 100) }
+    requires { (t < 2 ^ 8) × (x < 2 ^ 8) }
     ensures { result ≡ record { t = t; x = x; u = 1; y = 1 } }
 {
     Sizes {
@@ -29,8 +29,9 @@ fn single(t: usize, x: usize) -> Sizes
     }
 }
 
-/// The direct form of a filter without feedback: numerator `b` of 1 to `COEFFICIENTS` coefficients. It has a state for each earlier
-/// input that it reads, and no intermediate variable. Its error is want of memory.
+/// The direct form of a filter without feedback: numerator `b` of 1 to `COEFFICIENTS` coefficients.
+/// It has a state for each earlier input that it reads, and no intermediate variable. Its error is
+/// want of memory.
 pub fn fir(alloc: Global, b: &[Frac]) -> Result<Sif, AllocError>
     requires low { 1 ≤ length b.now }
     requires high { length b.now ≤ COEFFICIENTS }
@@ -46,8 +47,9 @@ pub fn fir(alloc: Global, b: &[Frac]) -> Result<Sif, AllocError>
     Sif::build_unrefused(alloc, single(0, order), &entries)
 }
 
-/// The first direct form: numerator `b` and denominator `a` of 1 to `COEFFICIENTS` coefficients each. The denominator's
-/// first stands for 1 and is not read. Its states are the earlier inputs, then the earlier outputs. Its error is want of memory.
+/// The first direct form: numerator `b` and denominator `a` of 1 to `COEFFICIENTS` coefficients
+/// each. The denominator's first stands for 1 and is not read. Its states are the earlier inputs,
+/// then the earlier outputs. Its error is want of memory.
 pub fn df1(alloc: Global, b: &[Frac], a: &[Frac]) -> Result<Sif, AllocError>
     requires numerator_low { 1 ≤ length b.now }
     requires numerator_high { length b.now ≤ COEFFICIENTS }
@@ -68,8 +70,9 @@ pub fn df1(alloc: Global, b: &[Frac], a: &[Frac]) -> Result<Sif, AllocError>
     Sif::build_unrefused(alloc, single(1, inputs + outputs), &entries)
 }
 
-/// The second direct form: numerator `b` and denominator `a` of 1 to `COEFFICIENTS` coefficients each. The denominator's
-/// first stands for 1 and is not read. Its states are the earlier values of its one intermediate variable. Its error is want of memory.
+/// The second direct form: numerator `b` and denominator `a` of 1 to `COEFFICIENTS` coefficients
+/// each. The denominator's first stands for 1 and is not read. Its states are the earlier values of
+/// its one intermediate variable. Its error is want of memory.
 pub fn df2(alloc: Global, b: &[Frac], a: &[Frac]) -> Result<Sif, AllocError>
     requires numerator_low { 1 ≤ length b.now }
     requires numerator_high { length b.now ≤ COEFFICIENTS }
@@ -89,8 +92,9 @@ pub fn df2(alloc: Global, b: &[Frac], a: &[Frac]) -> Result<Sif, AllocError>
     Sif::build_unrefused(alloc, single(1, order), &entries)
 }
 
-/// The second direct form transposed: numerator `b` and denominator `a` of 1 to `COEFFICIENTS` coefficients each. The
-/// denominator's first stands for 1 and is not read. Its states are sums that are still to be put out. Its error is want of memory.
+/// The second direct form transposed: numerator `b` and denominator `a` of 1 to `COEFFICIENTS`
+/// coefficients each. The denominator's first stands for 1 and is not read. Its states are sums
+/// that are still to be put out. Its error is want of memory.
 pub fn df2t(alloc: Global, b: &[Frac], a: &[Frac]) -> Result<Sif, AllocError>
     requires numerator_low { 1 ≤ length b.now }
     requires numerator_high { length b.now ≤ COEFFICIENTS }

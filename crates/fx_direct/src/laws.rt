@@ -42,7 +42,8 @@ pub fn df2_is_never_refused(b: &[Frac], a: &[Frac])
     what_fits_has_no_fault();
 }
 
-/// A law with nothing to run: the entries of `df2t` are never refused, and there are at most `EQUATION_TERMS` of fx_eqs.
+/// A law with nothing to run: the entries of `df2t` are never refused, and there are at most
+/// `EQUATION_TERMS` of fx_eqs.
 pub fn df2t_is_never_refused(b: &[Frac], a: &[Frac])
     requires numerator_low { 1 ≤ length b.now }
     requires numerator_high { length b.now ≤ COEFFICIENTS }

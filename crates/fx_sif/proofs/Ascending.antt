@@ -22,15 +22,24 @@ use Rattle.fx_sif.proofs.Matches.{nine}
 -- ---- blocks
 
 block_is : (a b : Block) → same_block a b ≡ true → a ≡ b
-block_is J = nine (λ b. same_block J b ≡ true → J ≡ b) (λ h. refl) (λ h. cc) (λ h. cc) (λ h. cc) (λ h. cc) (λ h. cc) (λ h. cc) (λ h. cc) (λ h. cc)
-block_is K = nine (λ b. same_block K b ≡ true → K ≡ b) (λ h. cc) (λ h. refl) (λ h. cc) (λ h. cc) (λ h. cc) (λ h. cc) (λ h. cc) (λ h. cc) (λ h. cc)
-block_is L = nine (λ b. same_block L b ≡ true → L ≡ b) (λ h. cc) (λ h. cc) (λ h. refl) (λ h. cc) (λ h. cc) (λ h. cc) (λ h. cc) (λ h. cc) (λ h. cc)
-block_is M = nine (λ b. same_block M b ≡ true → M ≡ b) (λ h. cc) (λ h. cc) (λ h. cc) (λ h. refl) (λ h. cc) (λ h. cc) (λ h. cc) (λ h. cc) (λ h. cc)
-block_is N = nine (λ b. same_block N b ≡ true → N ≡ b) (λ h. cc) (λ h. cc) (λ h. cc) (λ h. cc) (λ h. refl) (λ h. cc) (λ h. cc) (λ h. cc) (λ h. cc)
-block_is P = nine (λ b. same_block P b ≡ true → P ≡ b) (λ h. cc) (λ h. cc) (λ h. cc) (λ h. cc) (λ h. cc) (λ h. refl) (λ h. cc) (λ h. cc) (λ h. cc)
-block_is Q = nine (λ b. same_block Q b ≡ true → Q ≡ b) (λ h. cc) (λ h. cc) (λ h. cc) (λ h. cc) (λ h. cc) (λ h. cc) (λ h. refl) (λ h. cc) (λ h. cc)
-block_is R = nine (λ b. same_block R b ≡ true → R ≡ b) (λ h. cc) (λ h. cc) (λ h. cc) (λ h. cc) (λ h. cc) (λ h. cc) (λ h. cc) (λ h. refl) (λ h. cc)
-block_is S = nine (λ b. same_block S b ≡ true → S ≡ b) (λ h. cc) (λ h. cc) (λ h. cc) (λ h. cc) (λ h. cc) (λ h. cc) (λ h. cc) (λ h. cc) (λ h. refl)
+block_is J = nine (λ b. same_block J b ≡ true → J ≡ b) (λ h. refl) (λ h. cc) (λ h. cc) (λ h. cc) (λ h. cc) (λ h. cc)
+    (λ h. cc) (λ h. cc) (λ h. cc)
+block_is K = nine (λ b. same_block K b ≡ true → K ≡ b) (λ h. cc) (λ h. refl) (λ h. cc) (λ h. cc) (λ h. cc) (λ h. cc)
+    (λ h. cc) (λ h. cc) (λ h. cc)
+block_is L = nine (λ b. same_block L b ≡ true → L ≡ b) (λ h. cc) (λ h. cc) (λ h. refl) (λ h. cc) (λ h. cc) (λ h. cc)
+    (λ h. cc) (λ h. cc) (λ h. cc)
+block_is M = nine (λ b. same_block M b ≡ true → M ≡ b) (λ h. cc) (λ h. cc) (λ h. cc) (λ h. refl) (λ h. cc) (λ h. cc)
+    (λ h. cc) (λ h. cc) (λ h. cc)
+block_is N = nine (λ b. same_block N b ≡ true → N ≡ b) (λ h. cc) (λ h. cc) (λ h. cc) (λ h. cc) (λ h. refl) (λ h. cc)
+    (λ h. cc) (λ h. cc) (λ h. cc)
+block_is P = nine (λ b. same_block P b ≡ true → P ≡ b) (λ h. cc) (λ h. cc) (λ h. cc) (λ h. cc) (λ h. cc) (λ h. refl)
+    (λ h. cc) (λ h. cc) (λ h. cc)
+block_is Q = nine (λ b. same_block Q b ≡ true → Q ≡ b) (λ h. cc) (λ h. cc) (λ h. cc) (λ h. cc) (λ h. cc) (λ h. cc)
+    (λ h. refl) (λ h. cc) (λ h. cc)
+block_is R = nine (λ b. same_block R b ≡ true → R ≡ b) (λ h. cc) (λ h. cc) (λ h. cc) (λ h. cc) (λ h. cc) (λ h. cc)
+    (λ h. cc) (λ h. refl) (λ h. cc)
+block_is S = nine (λ b. same_block S b ≡ true → S ≡ b) (λ h. cc) (λ h. cc) (λ h. cc) (λ h. cc) (λ h. cc) (λ h. cc)
+    (λ h. cc) (λ h. cc) (λ h. refl)
 
 -- ---- counts within the limits
 
@@ -58,17 +67,21 @@ module _ (base : Block → ℕ) where
 
   pub ascends_within : (s : Sizes) (lo hi : ℕ) (es : List Entry) → Ascends s lo hi es → lo + length es ≤ hi
   ascends_within s lo hi [] h = omega (arith, h)
-  ascends_within s lo hi (e ∷ es) h = let below : lo ≤ number_of e = h.0 in let rest = ascends_within s (number_of e + 1) hi es h.2 in omega arith
+  ascends_within s lo hi (e ∷ es) h = let below : lo ≤ number_of e = h.0 in
+      let rest = ascends_within s (number_of e + 1) hi es h.2 in omega arith
 
-  pub ascends_lower : (s : Sizes) (lo mid hi : ℕ) (es : List Entry) → lo ≤ mid → Ascends s mid hi es → Ascends s lo hi es
+  pub ascends_lower : (s : Sizes) (lo mid hi : ℕ) (es : List Entry) → lo ≤ mid → Ascends s mid hi es →
+      Ascends s lo hi es
   ascends_lower s lo mid hi [] h r = omega (arith, h, r)
   ascends_lower s lo mid hi (e ∷ es) h r = ((let below : mid ≤ number_of e = r.0 in omega arith), r.1, r.2)
 
-  pub ascends_higher : (s : Sizes) (lo mid hi : ℕ) (es : List Entry) → mid ≤ hi → Ascends s lo mid es → Ascends s lo hi es
+  pub ascends_higher : (s : Sizes) (lo mid hi : ℕ) (es : List Entry) → mid ≤ hi → Ascends s lo mid es →
+      Ascends s lo hi es
   ascends_higher s lo mid hi [] h r = omega (arith, h, r)
   ascends_higher s lo mid hi (e ∷ es) h r = (r.0, r.1, ascends_higher s (number_of e + 1) mid hi es h r.2)
 
-  pub ascends_append : (s : Sizes) (lo mid hi : ℕ) (es gs : List Entry) → Ascends s lo mid es → Ascends s mid hi gs → Ascends s lo hi (es ++ gs)
+  pub ascends_append : (s : Sizes) (lo mid hi : ℕ) (es gs : List Entry) → Ascends s lo mid es → Ascends s mid hi gs →
+      Ascends s lo hi (es ++ gs)
   ascends_append s lo mid hi [] gs h k = ascends_lower s lo mid hi gs h k
   ascends_append s lo mid hi (e ∷ es) gs h k = (h.0, h.1, ascends_append s (number_of e + 1) mid hi es gs h.2 k)
 
@@ -94,16 +107,21 @@ module _ (base : Block → ℕ) where
       by_test true t = let same : number_of e ≡ number_of g = same_number g e t in absurd (omega arith)
       by_test false t = refl
 
-  pub apart : (s : Sizes) (e : Entry) (hi : ℕ) (es : List Entry) (lo : ℕ) → number_of e < lo → Ascends s lo hi es → All (λ g. same_place g e ≡ false) es
+  pub apart : (s : Sizes) (e : Entry) (hi : ℕ) (es : List Entry) (lo : ℕ) → number_of e < lo → Ascends s lo hi es →
+      All (λ g. same_place g e ≡ false) es
   apart s e hi [] lo h r = All-nil (λ g. same_place g e ≡ false)
   apart s e hi (g ∷ es) lo h r =
       let low : lo ≤ number_of g = r.0 in
       let less : number_of e < number_of g = omega arith in
-      All-cons (λ g. same_place g e ≡ false) g es (other_number e g less) (apart s e hi es (number_of g + 1) (omega arith) r.2)
+      All-cons (λ g. same_place g e ≡ false) g es (other_number e g less)
+      (apart s e hi es (number_of g + 1) (omega arith) r.2)
 
-  pub no_two : (s : Sizes) (lo hi : ℕ) (es : List Entry) → Ascends s lo hi es → IsDistinct (λ (e g : Entry). same_place g e) es
+  pub no_two : (s : Sizes) (lo hi : ℕ) (es : List Entry) → Ascends s lo hi es →
+      IsDistinct (λ (e g : Entry). same_place g e) es
   no_two s lo hi [] h = distinct_nil (λ (e g : Entry). same_place g e)
-  no_two s lo hi (e ∷ es) h = distinct_cons (λ (e g : Entry). same_place g e) e es (apart s e hi es (number_of e + 1) (omega arith) h.2) (no_two s (number_of e + 1) hi es h.2)
+  no_two s lo hi (e ∷ es) h =
+      distinct_cons (λ (e g : Entry). same_place g e) e es (apart s e hi es (number_of e + 1) (omega arith) h.2)
+      (no_two s (number_of e + 1) hi es h.2)
 
   -- ---- forms whose entries ascend
 
@@ -125,21 +143,33 @@ module _ (base : Block → ℕ) where
 
   -- ---- the parts
 
-  pub one_ascends : (s : Sizes) (lo hi : ℕ) (b : Block) (i j : ℕ) (c : Fraction) → lo ≤ number b i j → number b i j < hi → i < height s b → j < width s b → KeepsUnitLower b i j c → Ascends s lo hi (entry b i j c ∷ [])
-  one_ascends s lo hi b i j c low high row column lower = (low, record { row = row; column = column; unit_lower = lower }, omega arith)
+  pub one_ascends : (s : Sizes) (lo hi : ℕ) (b : Block) (i j : ℕ) (c : Fraction) → lo ≤ number b i j →
+      number b i j < hi → i < height s b → j < width s b → KeepsUnitLower b i j c → Ascends s lo hi (entry b i j c ∷ [])
+  one_ascends s lo hi b i j c low high row column lower =
+      (low, record { row = row; column = column; unit_lower = lower }, omega arith)
 
-  pub across_ascends : (s : Sizes) (hi : ℕ) (b : Block) (i : ℕ) (cs : List Fraction) (j : ℕ) → ((j : ℕ) (c : Fraction) → KeepsUnitLower b i j c) → i < height s b → j + length cs ≤ width s b → number b i (j + length cs) ≤ hi → Ascends s (number b i j) hi (across b i j cs)
+  pub across_ascends : (s : Sizes) (hi : ℕ) (b : Block) (i : ℕ) (cs : List Fraction) (j : ℕ) →
+      ((j : ℕ) (c : Fraction) → KeepsUnitLower b i j c) → i < height s b → j + length cs ≤ width s b →
+      number b i (j + length cs) ≤ hi → Ascends s (number b i j) hi (across b i j cs)
   across_ascends s hi b i [] j free row column high = omega (arith, high)
   across_ascends s hi b i (c ∷ cs) j free row column high =
-      let next = across_ascends s hi b i cs (j + 1) free row (omega arith) (omega arith) in
-      (omega arith, record { row = row; column = omega arith; unit_lower = free j c }, subst (λ n. Ascends s n hi (across b i (j + 1) cs)) (let e : number b i (j + 1) ≡ number b i j + 1 = omega arith in e) next)
+      let next = across_ascends s hi b i cs (j + 1) free row (omega arith) (omega arith) in (
+        omega arith,
+        record { row = row; column = omega arith; unit_lower = free j c },
+        subst
+            (λ n. Ascends s n hi (across b i (j + 1) cs))
+            (let e : number b i (j + 1) ≡ number b i j + 1 = omega arith in e) next,
+      )
 
-  pub rows_ascend : (s : Sizes) (lo n : ℕ) (f : ℕ → List Entry) → ((i : ℕ) → i < n → Ascends s (lo + 1000 * i) (lo + 1000 * (i + 1)) (f i)) → Ascends s lo (lo + 1000 * n) (joined n f)
+  pub rows_ascend : (s : Sizes) (lo n : ℕ) (f : ℕ → List Entry) →
+      ((i : ℕ) → i < n → Ascends s (lo + 1000 * i) (lo + 1000 * (i + 1)) (f i)) →
+      Ascends s lo (lo + 1000 * n) (joined n f)
   rows_ascend s lo zero f each = omega arith
   rows_ascend s lo (suc n) f each =
       ascends_append s lo (lo + 1000 * n) (lo + 1000 * suc n) (joined n f) (f n)
       (rows_ascend s lo n f (λ i h. each i (omega arith)))
-      (subst (λ m. Ascends s (lo + 1000 * n) (lo + 1000 * m) (f n)) (let e : n + 1 ≡ suc n = omega arith in e) (each n (omega arith)))
+      (subst (λ m. Ascends s (lo + 1000 * n) (lo + 1000 * m) (f n)) (let e : n + 1 ≡ suc n = omega arith in e)
+      (each n (omega arith)))
 
   -- parts that end where the next begin
   pub joined_ascend : (s : Sizes) (bound : ℕ → ℕ) (n : ℕ) (f : ℕ → List Entry) →
@@ -167,16 +197,20 @@ block_base R = 2000200
 pub delay_ascends : (s : Sizes) (b : Block) (column at i : ℕ) → ((i j : ℕ) (c : Fraction) → KeepsUnitLower b i j c) →
     1000000 ≤ block_base b → block_base b < 1000300 → at + i < height s b → at + i < s.x → column < width s b →
     column < 100 → s.x ≤ FORM_ROWS →
-    Ascends block_base s (1000000 + 1000 * at + 1000 * i) (1000000 + 1000 * at + 1000 * (i + 1)) (delay_row b column at i)
+    Ascends block_base s (1000000 + 1000 * at + 1000 * i) (1000000 + 1000 * at + 1000 * (i + 1))
+    (delay_row b column at i)
 delay_ascends s b column at zero free low high here state inside near few =
-    one_ascends block_base s (1000000 + 1000 * at + 1000 * 0) (1000000 + 1000 * at + 1000 * (0 + 1)) b at column one_fraction
+    one_ascends block_base s (1000000 + 1000 * at + 1000 * 0)
+    (1000000 + 1000 * at + 1000 * (0 + 1)) b at column one_fraction
     (omega arith) (omega arith) (omega arith) inside (free at column one_fraction)
 delay_ascends s b column at (suc i) free low high here state inside near few =
-    one_ascends block_base s (1000000 + 1000 * at + 1000 * suc i) (1000000 + 1000 * at + 1000 * (suc i + 1)) P (at + i + 1)
+    one_ascends block_base s (1000000 + 1000 * at + 1000 * suc i) (1000000 + 1000 * at + 1000 * (suc i + 1)) P
+    (at + i + 1)
     (at + i) one_fraction (omega arith) (omega arith) (omega arith) (omega arith) tt
 
 pub delays_ascend : (s : Sizes) (b : Block) (column at n : ℕ) → ((i j : ℕ) (c : Fraction) → KeepsUnitLower b i j c) →
-    1000000 ≤ block_base b → block_base b < 1000300 → s.x ≤ height s b → at + n ≤ s.x → column < width s b → column < 100 →
+    1000000 ≤ block_base b → block_base b < 1000300 → s.x ≤ height s b → at + n ≤ s.x → column < width s b →
+    column < 100 →
     s.x ≤ FORM_ROWS → Ascends block_base s (1000000 + 1000 * at) (1000000 + 1000 * (at + n)) (delays b column at n)
 delays_ascend s b column at n free low high states room inside near few =
     let end : 1000000 + 1000 * at + 1000 * n ≡ 1000000 + 1000 * (at + n) = omega arith in
@@ -185,8 +219,10 @@ delays_ascend s b column at n free low high states room inside near few =
     (λ i h. delay_ascends s b column at i free low high (omega arith) (omega arith) inside near few))
 
 -- an entry, and then coefficients across another block
-pub led_ascends : (s : Sizes) (lo hi : ℕ) (a b : Block) (c : Fraction) (cs : List Fraction) → ((i j : ℕ) (c : Fraction) → KeepsUnitLower a i j c) → ((i j : ℕ) (c : Fraction) → KeepsUnitLower b i j c) →
-    lo ≤ block_base a → block_base a + 1 ≤ block_base b → 0 < height s a → 0 < width s a → 0 < height s b → length cs ≤ width s b → block_base b + length cs ≤ hi →
+pub led_ascends : (s : Sizes) (lo hi : ℕ) (a b : Block) (c : Fraction) (cs : List Fraction) →
+    ((i j : ℕ) (c : Fraction) → KeepsUnitLower a i j c) → ((i j : ℕ) (c : Fraction) → KeepsUnitLower b i j c) →
+    lo ≤ block_base a → block_base a + 1 ≤ block_base b → 0 < height s a → 0 < width s a → 0 < height s b →
+    length cs ≤ width s b → block_base b + length cs ≤ hi →
     Ascends block_base s lo hi (entry a 0 0 c ∷ across b 0 0 cs)
 led_ascends s lo hi a b c cs free_a free_b low next row_a column_a row_b columns_b high = (
   omega arith,

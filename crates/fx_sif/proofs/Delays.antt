@@ -43,8 +43,11 @@ delay_in s block column at (suc i) place read = (refl, omega arith, tt)
 module _ (f : Implicit) (q g last : ℕ) (x u : ℕ → ℕ → ℤ) (positive : 0 < q * g) (meet : RowsMeet f q g last x u) where
   -- a state from a place on holds what the first takes in, so many moments before
   pub delayed : (block : Block) (column : ℕ) (v : ℕ → ℤ) (at count : ℕ) →
-      ((i k : ℕ) → i < count → adds f.sizes (weight q g) x u k (f.sizes.t + (at + i)) f.entries ≡ all_add f.sizes (weight q g) x u k (delay_row block column at i)) →
-      ((k : ℕ) → k ≤ last → read_of x u k (net_read f.sizes block column) ≡ v k) → on_the_right block one_fraction ≡ one_fraction → f.sizes.t + (at + count) ≤ rows f.sizes →
+      ((i k : ℕ) → i < count →
+      adds f.sizes (weight q g) x u k (f.sizes.t + (at + i)) f.entries
+      ≡ all_add f.sizes (weight q g) x u k (delay_row block column at i)) →
+      ((k : ℕ) → k ≤ last → read_of x u k (net_read f.sizes block column) ≡ v k) →
+      on_the_right block one_fraction ≡ one_fraction → f.sizes.t + (at + count) ≤ rows f.sizes →
       (i k : ℕ) → k ≤ last → i < count → x k (f.sizes.t + (at + i)) ≡ ago v k i
   delayed block column v at count rows_are source plus room zero k h l =
       cancelled (q * g) (x k (f.sizes.t + (at + 0))) (v k) positive
@@ -57,9 +60,11 @@ module _ (f : Implicit) (q g last : ℕ) (x u : ℕ → ℕ → ℤ) (positive :
       (meet k (f.sizes.t + (at + suc i)) h (omega arith)
       ∙ rows_are (suc i) k l
       ∙ alone q g (before x k (f.sizes.t + (at + i)))
-      ∙ ap (λ y. pos (q * g) *ℤ y) (state (λ k h. delayed block column v at count rows_are source plus room i k h (omega arith)) k h))
+      ∙ ap (λ y. pos (q * g) *ℤ y)
+      (state (λ k h. delayed block column v at count rows_are source plus room i k h (omega arith)) k h))
     where
-      state : ((k : ℕ) → k ≤ last → x k (f.sizes.t + (at + i)) ≡ ago v k i) → (k : ℕ) → k ≤ last → before x k (f.sizes.t + (at + i)) ≡ ago v k (suc i)
+      state : ((k : ℕ) → k ≤ last → x k (f.sizes.t + (at + i)) ≡ ago v k i) → (k : ℕ) → k ≤ last →
+          before x k (f.sizes.t + (at + i)) ≡ ago v k (suc i)
       state before_it zero h = refl
       state before_it (suc k) h = before_it k (omega arith)
 
@@ -67,7 +72,8 @@ module _ (f : Implicit) (q g last : ℕ) (x u : ℕ → ℕ → ℤ) (positive :
 pub over_states : (f : Implicit) (q g last : ℕ) (x u : ℕ → ℕ → ℤ) (block : Block) (v : ℕ → ℤ) (at count : ℕ) →
     ((j : ℕ) → net_read f.sizes block j ≡ net_read f.sizes P j) → ((c : Fraction) → on_the_right block c ≡ c) →
     ((i k : ℕ) → k ≤ last → i < count → x k (f.sizes.t + (at + i)) ≡ ago v k i) →
-    (k r : ℕ) (cs : List Fraction) (i j : ℕ) → k ≤ last → at + i ≡ j → i + length cs ≤ count → all_add f.sizes (weight q g) x u k (across block r j cs) ≡ weigh (weight q g) v k (i + 1) cs
+    (k r : ℕ) (cs : List Fraction) (i j : ℕ) → k ≤ last → at + i ≡ j → i + length cs ≤ count →
+    all_add f.sizes (weight q g) x u k (across block r j cs) ≡ weigh (weight q g) v k (i + 1) cs
 over_states f q g last x u block v at count reads plus states k r [] i j h same room = refl
 over_states f q g last x u block v at count reads plus states k r (c ∷ cs) i j h same room =
     ap₂ (λ a b. a +ℤ b)

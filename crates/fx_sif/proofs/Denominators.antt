@@ -28,7 +28,8 @@ all_of_both P (x ∷ xs) ys h =
 
 pub all_of_rows : (P : Entry → Type 0) (n : ℕ) (f : ℕ → List Entry) → All P (joined n f) → (i : ℕ) → i < n → All P (f i)
 all_of_rows P zero f h i l = absurd (omega arith)
-all_of_rows P (suc n) f h i l = let p = all_of_both P (joined n f) (f n) h in by_place (all_of_rows P n f p.0 i) p.1 (cases_eq i n)
+all_of_rows P (suc n) f h i l = let p = all_of_both P (joined n f) (f n) h in
+    by_place (all_of_rows P n f p.0 i) p.1 (cases_eq i n)
   where
     by_place : (i < n → All P (f i)) → All P (f n) → (i ≡ n) ⊎ (i ≡ n → ⊥) → All P (f i)
     by_place before last (inl same) = rw same last
@@ -44,17 +45,22 @@ abbrev AreWhole : ℕ → List NetTerm → Type 0
 AreWhole q ts = All (λ (t : NetTerm). IsWholeOver q (plain t.coef)) ts
 
 -- what holds of all terms of a row holds of those behind its first entry
-rest_whole : (s : Sizes) (q r : ℕ) (e : Entry) (es : List Entry) → AreWhole q (net_row s (e ∷ es) r) → AreWhole q (net_row s es r)
+rest_whole : (s : Sizes) (q r : ℕ) (e : Entry) (es : List Entry) → AreWhole q (net_row s (e ∷ es) r) →
+    AreWhole q (net_row s es r)
 rest_whole s q r e es = by_test (is_in_row s r e)
   where
-    by_test : (b : Bool) → AreWhole q (map (term_of s) (cond b (e ∷ filter (is_in_row s r) es) (filter (is_in_row s r) es))) → AreWhole q (net_row s es r)
+    by_test : (b : Bool) → AreWhole q
+        (map (term_of s) (cond b (e ∷ filter (is_in_row s r) es) (filter (is_in_row s r) es))) →
+        AreWhole q (net_row s es r)
     by_test true h = All-tail (λ (t : NetTerm). IsWholeOver q (plain t.coef)) (term_of s e) (net_row s es r) h
     by_test false h = h
 
-each_suited : (s : Sizes) (q : ℕ) (es : List Entry) → All (EntryFits s) es → ((r : ℕ) → r < rows s → AreWhole q (net_row s es r)) → All (IsSuited q) es
+each_suited : (s : Sizes) (q : ℕ) (es : List Entry) → All (EntryFits s) es →
+    ((r : ℕ) → r < rows s → AreWhole q (net_row s es r)) → All (IsSuited q) es
 each_suited s q [] fits whole = All-nil (IsSuited q)
 each_suited s q (e ∷ es) fits whole =
-    All-cons (IsSuited q) e es first (each_suited s q es (All-tail (EntryFits s) e es fits) (λ r h. rest_whole s q r e es (whole r h)))
+    All-cons (IsSuited q) e es first
+    (each_suited s q es (All-tail (EntryFits s) e es fits) (λ r h. rest_whole s q r e es (whole r h)))
   where
     r : ℕ
     r = row_place s e.block e.i
@@ -62,12 +68,17 @@ each_suited s q (e ∷ es) fits whole =
     first : IsSuited q e
     first read =
         let fit = All-head (EntryFits s) e es fits in
-        let here : filter (is_in_row s r) (e ∷ es) ≡ e ∷ filter (is_in_row s r) es = cond-true (is_in_row s r e) (e ∷ filter (is_in_row s r) es) (filter (is_in_row s r) es) (and_from _ _ read (eq-eqb r r refl)) in
+        let here : filter (is_in_row s r) (e ∷ es)
+        ≡ e ∷ filter (is_in_row s r) es =
+        cond-true (is_in_row s r e) (e ∷ filter (is_in_row s r) es) (filter (is_in_row s r) es)
+        (and_from _ _ read (eq-eqb r r refl)) in
         All-head (λ (t : NetTerm). IsWholeOver q (plain t.coef)) (term_of s e) (net_row s es r)
         (subst (λ gs. AreWhole q (map (term_of s) gs)) here (whole r (place_below s e.block e.i fit.row)))
 
-pub entries_suited : (f : Implicit) → ImplicitFits f → (q : ℕ) → IsDenominator (net_alone f) q → All (IsSuited q) f.entries
-entries_suited f fits q denominator = each_suited f.sizes q f.entries fits.entries (denominators_divide f fits q denominator)
+pub entries_suited : (f : Implicit) → ImplicitFits f → (q : ℕ) → IsDenominator (net_alone f) q →
+    All (IsSuited q) f.entries
+entries_suited f fits q denominator =
+    each_suited f.sizes q f.entries fits.entries (denominators_divide f fits q denominator)
 
 -- ---- coefficients
 
@@ -89,7 +100,8 @@ first_suits q [] h first rest = absurd (omega arith)
 first_suits q (c ∷ cs) h first rest = All-cons (λ (c : Fraction). IsWholeOver q (plain c)) c cs first rest
 
 -- coefficients across a row of a block that is read with its sign
-pub across_suits : (q : ℕ) (b : Block) (i : ℕ) (cs : List Fraction) (j : ℕ) → ((j : ℕ) → is_read b i j ≡ true) → ((c : Fraction) → on_the_right b c ≡ c) → All (IsSuited q) (across b i j cs) → Suits q cs
+pub across_suits : (q : ℕ) (b : Block) (i : ℕ) (cs : List Fraction) (j : ℕ) → ((j : ℕ) → is_read b i j ≡ true) →
+    ((c : Fraction) → on_the_right b c ≡ c) → All (IsSuited q) (across b i j cs) → Suits q cs
 across_suits q b i [] j read plus h = All-nil (λ (c : Fraction). IsWholeOver q (plain c))
 across_suits q b i (c ∷ cs) j read plus h =
     let e : Entry = record { block = b; i = i; j = j; coef = c } in

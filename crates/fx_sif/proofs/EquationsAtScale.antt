@@ -1,4 +1,5 @@
--- The exact run of an equation system, brought to one scale, at which no powers of its denominator are left: each row is the
+-- The exact run of an equation system, brought to one scale, at which no powers of its denominator are left: each row
+-- is the
 -- sum of its terms over the values of earlier moments.
 use Rattle.std.proofs.Common.{◌≡◌, ℕ, zero, suc, ◌+◌, ◌-◌, ◌*◌, ◌^◌, ◌<◌, ◌≤◌, Bool, true, false, if◌then◌else◌, eqb, List, [], ◌∷◌, All, refl, arith, sym, ap, ap₂, subst, ◌∙◌}
 use Rattle.std.proofs.Math.IntN.{ℤ, pos, ◌+ℤ◌, ◌*ℤ◌}
@@ -54,7 +55,8 @@ ago_lifted last n g e z j (suc k) (suc l) h =
 now_distance : (d n i j : ℕ) → j < i → i < n → suc ((i - j - 1) + (d + (n - (i + 1)))) ≡ d + (n - (j + 1))
 now_distance d n i j h l = omega arith
 
-old_distance : (p d n i j : ℕ) → n ≤ p → j < n → i < n → suc ((p + i - j - 1) + (d + (n - (i + 1)))) ≡ d + p + (n - (j + 1))
+old_distance : (p d n i j : ℕ) → n ≤ p → j < n → i < n →
+    suc ((p + i - j - 1) + (d + (n - (i + 1)))) ≡ d + p + (n - (j + 1))
 old_distance p d n i j far h l = omega arith
 
 row_distance : (d n l i j : ℕ) → (l ≡ 0 → j < i) → j < n → i < n →
@@ -77,7 +79,8 @@ lifted_source : (s : Equations) (g last e k i : ℕ) (u z : ℕ → ℕ → ℤ)
     ≡ ago (sequence (lifted last s.rows g e z) (input_times (g ^ (suc last * s.rows) * e) u) from) k lag
 lifted_source s g last e k i u z (Row j) lag there causal low h =
     let n : ℕ = s.rows in
-    raised (lagged z k lag j) g (g ^ (lag * n + i - j - 1)) (raise last n g k i) (g ^ ((last - k + lag) * n + (n - (j + 1)))) e
+    raised (lagged z k lag j) g (g ^ (lag * n + i - j - 1)) (raise last n g k i)
+    (g ^ ((last - k + lag) * n + (n - (j + 1)))) e
     (powers g (lag * n + i - j - 1) ((last - k) * n + (n - (i + 1))) ((last - k + lag) * n + (n - (j + 1)))
     (row_distance (last - k) n lag i j causal there low))
     ∙ sym (ago_lifted last n g e z j k lag h)
@@ -120,7 +123,8 @@ module _ (s : Equations) (q g last e : ℕ) (u z : ℕ → ℕ → ℤ) (k i : �
   lifted_sum [] fits whole divides = no_terms (q * g) r
   lifted_sum (t ∷ ts) fits whole divides =
       by_row (eqb t.row i) (λ e. eqb_is e)
-      (lifted_sum ts (All-tail (TermFits s.rows s.inputs) t ts fits) (All-tail (λ (t : Term). IsWholeOver q t.coef) t ts whole)
+      (lifted_sum ts (All-tail (TermFits s.rows s.inputs) t ts fits)
+      (All-tail (λ (t : Term). IsWholeOver q t.coef) t ts whole)
       (All-tail (λ (t : Term). IsWholeOver g t.coef) t ts divides))
     where
       fit : TermFits s.rows s.inputs t
@@ -134,16 +138,21 @@ module _ (s : Equations) (q g last e : ℕ) (u z : ℕ → ℕ → ℤ) (k i : �
 
       by_row : (b : Bool) → (b ≡ true → t.row ≡ i) →
           pos (q * g) *ℤ (terms_sum s g u k i (λ l j. lagged z k l j) ts *ℤ pos r) ≡ lag_sum (weight q g) y v k i ts →
-          pos (q * g) *ℤ (((if b then over g t.coef *ℤ read else pos 0) +ℤ terms_sum s g u k i (λ l j. lagged z k l j) ts) *ℤ pos r)
-          ≡ (if b then weight q g t.coef *ℤ ago (sequence y v t.from) k t.lag else pos 0) +ℤ lag_sum (weight q g) y v k i ts
+          pos (q * g) *ℤ (((if b then over g t.coef *ℤ read else pos 0) +ℤ terms_sum s g u k i
+          (λ l j. lagged z k l j) ts) *ℤ pos r)
+          ≡ (if b then weight q g t.coef *ℤ ago (sequence y v t.from) k t.lag else pos 0)
+          +ℤ lag_sum (weight q g) y v k i ts
       by_row true same rest =
           split_off (over g t.coef) read (terms_sum s g u k i (λ l j. lagged z k l j) ts) q g r
           ∙ ap₂ (λ a b. a +ℤ b)
           (ap₂ (λ a b. a *ℤ b)
-          (sym (crossed q g t.coef (All-head (λ (t : Term). IsWholeOver q t.coef) t ts whole) (All-head (λ (t : Term). IsWholeOver g t.coef) t ts divides)))
-          (lifted_source s g last e k i u z t.from t.lag fit.source (subst (λ row. IsThereByThen row t.from t.lag) (same refl) fit.causal) low h))
+          (sym (crossed q g t.coef (All-head (λ (t : Term). IsWholeOver q t.coef) t ts whole)
+          (All-head (λ (t : Term). IsWholeOver g t.coef) t ts divides)))
+          (lifted_source s g last e k i u z t.from t.lag fit.source
+          (subst (λ row. IsThereByThen row t.from t.lag) (same refl) fit.causal) low h))
           rest
-      by_row false same rest = passed_by (terms_sum s g u k i (λ l j. lagged z k l j) ts) (q * g) r (lag_sum (weight q g) y v k i ts) rest
+      by_row false same rest =
+          passed_by (terms_sum s g u k i (λ l j. lagged z k l j) ts) (q * g) r (lag_sum (weight q g) y v k i ts) rest
 
 pub equations_meet : (s : Equations) → EquationsFit s → (q g last e : ℕ) (u : ℕ → ℕ → ℤ) →
     All (λ (t : Term). IsWholeOver q t.coef) s.terms → DividesEach g s.terms →
@@ -167,9 +176,11 @@ none_of false o x w e f = rw f refl
 nothing_over : (s : Equations) (u v : ℕ → ℕ → ℤ) (k i : ℕ) (ts : List Term) → terms_sum s 0 u k i v ts ≡ pos 0
 nothing_over s u v k i [] = refl
 nothing_over s u v k i (t ∷ ts) =
-    none_of (eqb t.row i) (over 0 t.coef) (value_read s 0 u k i v t.from t.lag) (terms_sum s 0 u k i v ts) (over_nothing t.coef)
+    none_of (eqb t.row i) (over 0 t.coef) (value_read s 0 u k i v t.from t.lag) (terms_sum s 0 u k i v ts)
+    (over_nothing t.coef)
     (nothing_over s u v k i ts)
 
-pub exact_over_nothing : (s : Equations) → EquationsFit s → (u : ℕ → ℕ → ℤ) (k i : ℕ) → i < s.rows → exact_value s 0 u k i ≡ pos 0
+pub exact_over_nothing : (s : Equations) → EquationsFit s → (u : ℕ → ℕ → ℤ) (k i : ℕ) → i < s.rows →
+    exact_value s 0 u k i ≡ pos 0
 exact_over_nothing s fits u k i low =
     exact_rows s fits 0 u k i low ∙ nothing_over s u (λ l j. lagged (exact_value s 0 u) k l j) k i s.terms

@@ -12,7 +12,8 @@ entry_told s earlier e = search (rules, if_told, none_told) depth 9
 
 entries_told : (s : Sizes) (earlier es : List Entry) → IsTold (told is_memory) (entries_fault s earlier es)
 entries_told s earlier [] = none_told (told is_memory)
-entries_told s earlier (e ∷ es) = or_told (told is_memory) _ _ (entry_told s earlier e) (entries_told s (earlier ++ e ∷ []) es)
+entries_told s earlier (e ∷ es) =
+    or_told (told is_memory) _ _ (entry_told s earlier e) (entries_told s (earlier ++ e ∷ []) es)
 
 all_told : (s : Sizes) (entries : List Entry) → IsTold (told is_memory) (sif_fault s entries)
 all_told s entries = search (rules, if_told, entries_told) depth 9

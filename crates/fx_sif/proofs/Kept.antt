@@ -64,7 +64,12 @@ passes s earlier e h =
     let unit = if_none _ _ _ shape.1 in
     let once = if_none _ _ _ unit.1 in
     record {
-      fits = record { row = not_le _ _ tests.0; column = not_le _ _ tests.1; unit_lower = keeps e.block e.i e.j e.coef unit.0 };
+      fits = record {
+        row = not_le _ _ tests.0;
+        column = not_le _ _ tests.1;
+        unit_lower =
+            keeps e.block e.i e.j e.coef unit.0;
+      };
       once = once.0;
     }
 
@@ -77,19 +82,24 @@ entries_fit s earlier (e ∷ es) h =
     All-cons (EntryFits s) e es (passes s earlier e p.0).fits (entries_fit s (earlier ++ e ∷ []) es p.1)
 
 -- a test that no element of a list passes, fails at each
-fails_at : (test : Entry → Bool) (before after : List Entry) (e : Entry) → list_any test (before ++ e ∷ after) ≡ false → test e ≡ false
+fails_at : (test : Entry → Bool) (before after : List Entry) (e : Entry) →
+    list_any test (before ++ e ∷ after) ≡ false → test e ≡ false
 fails_at test [] after e h = (or_parts (test e) (list_any test after) h).0
-fails_at test (b ∷ before) after e h = fails_at test before after e (or_parts (test b) (list_any test (before ++ e ∷ after)) h).1
+fails_at test (b ∷ before) after e h =
+    fails_at test before after e (or_parts (test b) (list_any test (before ++ e ∷ after)) h).1
 
 -- an earlier entry stands in another place than all behind it
-apart : (s : Sizes) (before after : List Entry) (e : Entry) (es : List Entry) → entries_fault s (before ++ e ∷ after) es ≡ None → AllByRecursion (λ (g : Entry). same_place g e ≡ false) es
+apart : (s : Sizes) (before after : List Entry) (e : Entry) (es : List Entry) →
+    entries_fault s (before ++ e ∷ after) es ≡ None → AllByRecursion (λ (g : Entry). same_place g e ≡ false) es
 apart s before after e [] h = tt
 apart s before after e (g ∷ es) h =
     let p = or_none _ _ h in
-    let rest = apart s before (after ++ g ∷ []) e es (ap (λ x. entries_fault s x es) (sym (append_assoc before (e ∷ after) (g ∷ []))) ∙ p.1) in
+    let rest = apart s before (after ++ g ∷ []) e es
+    (ap (λ x. entries_fault s x es) (sym (append_assoc before (e ∷ after) (g ∷ []))) ∙ p.1) in
     (fails_at (same_place g) before after e (passes s (before ++ e ∷ after) g p.0).once, rest)
 
-once_each : (s : Sizes) (earlier es : List Entry) → entries_fault s earlier es ≡ None → IsDistinct (λ (e g : Entry). same_place g e) es
+once_each : (s : Sizes) (earlier es : List Entry) → entries_fault s earlier es ≡ None →
+    IsDistinct (λ (e g : Entry). same_place g e) es
 unfolding IsDistinct
 once_each s earlier [] h = tt
 once_each s earlier (e ∷ es) h =
@@ -98,7 +108,8 @@ once_each s earlier (e ∷ es) h =
 
 -- ---- the form
 
-pub form_fits : (s : Sizes) (entries : List Entry) → sif_fault s entries ≡ None → ImplicitFits (record { sizes = s; entries = entries })
+pub form_fits : (s : Sizes) (entries : List Entry) → sif_fault s entries ≡ None →
+    ImplicitFits (record { sizes = s; entries = entries })
 form_fits s entries h =
     let row = if_none _ _ _ h in
     let input = if_none _ _ _ row.1 in

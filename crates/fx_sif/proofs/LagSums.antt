@@ -171,7 +171,8 @@ kept_whole q (t ∷ ts) h =
         let whole : IsWholeOver q t.coef = rw e at here in
         All-cons (λ (t : Term). IsWholeOver q t.coef) t (kept ts) whole rest
 
-pub lags_suit : (q row : ℕ) (from : Source) (lag : ℕ) (cs : List Fraction) → Suits q cs → TermsSuit q (over_lags row from lag cs)
+pub lags_suit : (q row : ℕ) (from : Source) (lag : ℕ) (cs : List Fraction) → Suits q cs →
+    TermsSuit q (over_lags row from lag cs)
 lags_suit q row from lag [] h = All-nil (λ (t : Term). IsWholeOver q (plain t.coef))
 lags_suit q row from lag (c ∷ cs) h =
     All-cons (λ (t : Term). IsWholeOver q (plain t.coef)) (summand row c from lag) (over_lags row from (lag + 1) cs)
@@ -182,12 +183,14 @@ pub sources_suit : (q row : ℕ) (from : ℕ → Source) (lag j : ℕ) (cs : Lis
     TermsSuit q (over_sources row from lag j cs)
 sources_suit q row from lag j [] h = All-nil (λ (t : Term). IsWholeOver q (plain t.coef))
 sources_suit q row from lag j (c ∷ cs) h =
-    All-cons (λ (t : Term). IsWholeOver q (plain t.coef)) (summand row c (from j) lag) (over_sources row from lag (j + 1) cs)
+    All-cons (λ (t : Term). IsWholeOver q (plain t.coef)) (summand row c (from j) lag)
+    (over_sources row from lag (j + 1) cs)
     (All-head (λ (c : Fraction). IsWholeOver q (plain c)) c cs h)
     (sources_suit q row from lag (j + 1) cs (All-tail (λ (c : Fraction). IsWholeOver q (plain c)) c cs h))
 
 pub recursion_suits : (q row : ℕ) (from : Source) (b a : List Fraction) → Suits q b → Suits q (fed_back a) →
     TermsSuit q (recursion row from b a)
 recursion_suits q row from b a of_b of_a =
-    All-append (λ (t : Term). IsWholeOver q (plain t.coef)) (over_lags row from 0 b) (over_lags row (Row row) 1 (fed_back a))
+    All-append (λ (t : Term). IsWholeOver q (plain t.coef)) (over_lags row from 0 b)
+    (over_lags row (Row row) 1 (fed_back a))
     (lags_suit q row from 0 b of_b) (lags_suit q row (Row row) 1 (fed_back a) of_a)

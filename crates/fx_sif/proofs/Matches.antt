@@ -78,16 +78,26 @@ nine X j k l m n p q r s Q = q
 nine X j k l m n p q r s R = r
 nine X j k l m n p q r s S = s
 
-block-is : (a b : Block) → same_block a b ≡ same_group (row_group a) (row_group b) && same_group (column_group b) (column_group a)
-block-is J = nine (λ b. same_block J b ≡ same_group (row_group J) (row_group b) && same_group (column_group b) (column_group J)) refl refl refl refl refl refl refl refl refl
-block-is K = nine (λ b. same_block K b ≡ same_group (row_group K) (row_group b) && same_group (column_group b) (column_group K)) refl refl refl refl refl refl refl refl refl
-block-is L = nine (λ b. same_block L b ≡ same_group (row_group L) (row_group b) && same_group (column_group b) (column_group L)) refl refl refl refl refl refl refl refl refl
-block-is M = nine (λ b. same_block M b ≡ same_group (row_group M) (row_group b) && same_group (column_group b) (column_group M)) refl refl refl refl refl refl refl refl refl
-block-is N = nine (λ b. same_block N b ≡ same_group (row_group N) (row_group b) && same_group (column_group b) (column_group N)) refl refl refl refl refl refl refl refl refl
-block-is P = nine (λ b. same_block P b ≡ same_group (row_group P) (row_group b) && same_group (column_group b) (column_group P)) refl refl refl refl refl refl refl refl refl
-block-is Q = nine (λ b. same_block Q b ≡ same_group (row_group Q) (row_group b) && same_group (column_group b) (column_group Q)) refl refl refl refl refl refl refl refl refl
-block-is R = nine (λ b. same_block R b ≡ same_group (row_group R) (row_group b) && same_group (column_group b) (column_group R)) refl refl refl refl refl refl refl refl refl
-block-is S = nine (λ b. same_block S b ≡ same_group (row_group S) (row_group b) && same_group (column_group b) (column_group S)) refl refl refl refl refl refl refl refl refl
+block-is : (a b : Block) →
+    same_block a b ≡ same_group (row_group a) (row_group b) && same_group (column_group b) (column_group a)
+block-is J = nine (λ b. same_block J b ≡ same_group (row_group J) (row_group b) && same_group (column_group b)
+    (column_group J)) refl refl refl refl refl refl refl refl refl
+block-is K = nine (λ b. same_block K b ≡ same_group (row_group K) (row_group b) && same_group (column_group b)
+    (column_group K)) refl refl refl refl refl refl refl refl refl
+block-is L = nine (λ b. same_block L b ≡ same_group (row_group L) (row_group b) && same_group (column_group b)
+    (column_group L)) refl refl refl refl refl refl refl refl refl
+block-is M = nine (λ b. same_block M b ≡ same_group (row_group M) (row_group b) && same_group (column_group b)
+    (column_group M)) refl refl refl refl refl refl refl refl refl
+block-is N = nine (λ b. same_block N b ≡ same_group (row_group N) (row_group b) && same_group (column_group b)
+    (column_group N)) refl refl refl refl refl refl refl refl refl
+block-is P = nine (λ b. same_block P b ≡ same_group (row_group P) (row_group b) && same_group (column_group b)
+    (column_group P)) refl refl refl refl refl refl refl refl refl
+block-is Q = nine (λ b. same_block Q b ≡ same_group (row_group Q) (row_group b) && same_group (column_group b)
+    (column_group Q)) refl refl refl refl refl refl refl refl refl
+block-is R = nine (λ b. same_block R b ≡ same_group (row_group R) (row_group b) && same_group (column_group b)
+    (column_group R)) refl refl refl refl refl refl refl refl refl
+block-is S = nine (λ b. same_block S b ≡ same_group (row_group S) (row_group b) && same_group (column_group b)
+    (column_group S)) refl refl refl refl refl refl refl refl refl
 
 abbrev number : Block → ℕ
 number J = 0
@@ -147,7 +157,9 @@ stands_at b i j e h =
     (same_is e.block b outer.0, (eqb-true e.i i inner.0, eqb-true e.j j inner.1))
 
 pub stands_from : (b : Block) (i j : ℕ) (e : Entry) → e.block ≡ b → e.i ≡ i → e.j ≡ j → is_at b i j e ≡ true
-stands_from b i j e x y z = rw (x, y, z) (and_from (same_block b b) (eqb i i && eqb j j) (number-is b b ∙ eq-eqb (number b) (number b) refl) (and_from (eqb i i) (eqb j j) (eq-eqb i i refl) (eq-eqb j j refl)))
+stands_from b i j e x y z =
+    rw (x, y, z) (and_from (same_block b b) (eqb i i && eqb j j) (number-is b b ∙ eq-eqb (number b) (number b) refl)
+    (and_from (eqb i i) (eqb j j) (eq-eqb i i refl) (eq-eqb j j refl)))
 
 -- ---- rows
 
@@ -184,7 +196,8 @@ height-is s R = refl
 height-is s S = refl
 
 -- rows of groups are the same where the groups and the rows in them are
-group_rows : (s : Sizes) (a b : Group) (i j : ℕ) → i < size s a → j < size s b → eqb (start s a + i) (start s b + j) ≡ same_group a b && eqb i j
+group_rows : (s : Sizes) (a b : Group) (i j : ℕ) → i < size s a → j < size s b →
+    eqb (start s a + i) (start s b + j) ≡ same_group a b && eqb i j
 group_rows s Variables Variables i j h k = shifted 0 i j
 group_rows s Variables States i j h k = ne_eqb (0 + i) (s.t + j) (λ e. omega (arith, h, e))
 group_rows s Variables Ends i j h k = ne_eqb (0 + i) (s.t + s.x + j) (λ e. omega (arith, h, e))
@@ -240,10 +253,15 @@ four false b c d = refl
 
 -- an entry is in the row of a place and reads what is read there just where it stands in that place
 pub place_matches : (s : Sizes) (b : Block) (i j : ℕ) (e : Entry) → i < height s b → EntryFits s e →
-    eqb (row_place s e.block e.i) (row_place s b i) && same_read (net_read s b j) (net_read s e.block e.j) ≡ is_at b i j e
+    eqb (row_place s e.block e.i) (row_place s b i) && same_read (net_read s b j) (net_read s e.block e.j)
+    ≡ is_at b i j e
 place_matches s b i j e h fits =
-    let rows = ap₂ (λ p q. eqb p q) (place-is s e.block e.i) (place-is s b i) ∙ group_rows s (row_group e.block) (row_group b) e.i i (rw (← height-is s e.block) fits.row) (rw (← height-is s b) h) in
-    let reads = ap₂ (λ p q. same_read p q) (read-is s b j) (read-is s e.block e.j) ∙ group_reads s (column_group b) (column_group e.block) j e.j in
+    let rows = ap₂ (λ p q. eqb p q) (place-is s e.block e.i) (place-is s b i)
+    ∙ group_rows s (row_group e.block) (row_group b) e.i i (rw (← height-is s e.block) fits.row)
+    (rw (← height-is s b) h) in
+    let reads = ap₂ (λ p q. same_read p q) (read-is s b j) (read-is s e.block e.j)
+    ∙ group_reads s (column_group b) (column_group e.block) j e.j in
     ap₂ (λ p q. p && q) rows reads
-    ∙ four (same_group (row_group e.block) (row_group b)) (eqb e.i i) (same_group (column_group b) (column_group e.block)) (eqb e.j j)
+    ∙ four (same_group (row_group e.block) (row_group b)) (eqb e.i i)
+    (same_group (column_group b) (column_group e.block)) (eqb e.j j)
     ∙ ap (λ p. p && (eqb e.i i && eqb e.j j)) (sym (block-is e.block b))

@@ -44,14 +44,16 @@ lower : (i j : ℕ) (c : Fraction) → IsUnitLower i j c → breaks_unit_lower J
 lower i j c h = or_from _ _ (diagonal (cases_eq i j)) (above (cases_lt i j))
   where
     diagonal : (i ≡ j) ⊎ (i ≡ j → ⊥) → eqb i j && not (is_one c) ≡ false
-    diagonal (inl a) = not_from (eqb i j) (is_one c) (one_passes c.num (den_value c.den) (den_positive c.den) (h.diagonal a))
+    diagonal (inl a) = not_from (eqb i j) (is_one c)
+        (one_passes c.num (den_value c.den) (den_positive c.den) (h.diagonal a))
     diagonal (inr a) = and_left _ _ (ne_eqb i j a)
 
     above : (i < j) ⊎ (j ≤ i) → ltb i j && not (is_zero c) ≡ false
     above (inl a) = not_from (ltb i j) (is_zero c) (zero_passes c.num (h.above a))
     above (inr a) = and_left _ _ (le-ltb i j a)
 
-unit_passes : (block : Block) (i j : ℕ) (c : Fraction) → KeepsUnitLower block i j c → breaks_unit_lower block i j c ≡ false
+unit_passes : (block : Block) (i j : ℕ) (c : Fraction) → KeepsUnitLower block i j c →
+    breaks_unit_lower block i j c ≡ false
 unit_passes J i j c h = lower i j c h
 unit_passes K i j c h = refl
 unit_passes L i j c h = refl
@@ -64,7 +66,8 @@ unit_passes S i j c h = refl
 
 -- ---- entry by entry
 
-no_entry_fault : (s : Sizes) (earlier : List Entry) (e : Entry) → EntryFits s e → list_any (same_place e) earlier ≡ false → entry_fault s earlier e ≡ None
+no_entry_fault : (s : Sizes) (earlier : List Entry) (e : Entry) → EntryFits s e →
+    list_any (same_place e) earlier ≡ false → entry_fault s earlier e ≡ None
 no_entry_fault s earlier e fits fresh =
     none_if _ _ _ (or_from _ _ (lt-leb (height s e.block) e.i fits.row) (lt-leb (width s e.block) e.j fits.column))
     (none_if _ _ _ (unit_passes e.block e.i e.j e.coef fits.unit_lower)
@@ -75,20 +78,24 @@ abbrev AllFresh : List Entry → List Entry → Type 0
 AllFresh earlier es = All (λ e. list_any (same_place e) earlier ≡ false) es
 
 -- one more joins the earlier ones
-fresh_behind : (earlier : List Entry) (e : Entry) (es : List Entry) → AllFresh earlier es → All (λ g. same_place g e ≡ false) es → AllFresh (earlier ++ e ∷ []) es
+fresh_behind : (earlier : List Entry) (e : Entry) (es : List Entry) → AllFresh earlier es →
+    All (λ g. same_place g e ≡ false) es → AllFresh (earlier ++ e ∷ []) es
 fresh_behind earlier e es fresh apart = λ k d h.
     let g = get_or es k d in
     list_any-append (same_place g) earlier (e ∷ []) ∙ or_from _ _ (fresh k d h) (or_from _ _ (apart k d h) refl)
 
-no_entries_fault : (s : Sizes) (earlier es : List Entry) → All (EntryFits s) es → IsDistinct (λ (e g : Entry). same_place g e) es → AllFresh earlier es → entries_fault s earlier es ≡ None
+no_entries_fault : (s : Sizes) (earlier es : List Entry) → All (EntryFits s) es →
+    IsDistinct (λ (e g : Entry). same_place g e) es → AllFresh earlier es → entries_fault s earlier es ≡ None
 no_entries_fault s earlier [] fits once fresh = refl
 no_entries_fault s earlier (e ∷ es) fits once fresh =
     none_or _ _
-    (no_entry_fault s earlier e (All-head (EntryFits s) e es fits) (All-head (λ g. list_any (same_place g) earlier ≡ false) e es fresh))
+    (no_entry_fault s earlier e (All-head (EntryFits s) e es fits)
+    (All-head (λ g. list_any (same_place g) earlier ≡ false) e es fresh))
     (no_entries_fault s (earlier ++ e ∷ []) es
     (All-tail (EntryFits s) e es fits)
     (IsDistinct-tail (λ (e g : Entry). same_place g e) e es once)
-    (fresh_behind earlier e es (All-tail (λ g. list_any (same_place g) earlier ≡ false) e es fresh) (distinct_head (λ (e g : Entry). same_place g e) e es once)))
+    (fresh_behind earlier e es (All-tail (λ g. list_any (same_place g) earlier ≡ false) e es fresh)
+    (distinct_head (λ (e g : Entry). same_place g e) e es once)))
 
 -- ---- the form
 

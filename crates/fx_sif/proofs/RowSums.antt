@@ -40,10 +40,12 @@ module _ (s : Sizes) (w : Fraction → ℤ) (x u : ℕ → ℕ → ℤ) (k : ℕ
   adds_both r (e ∷ es) gs = by_test (is_in_row s r e) (adds_both r es gs)
     where
       by_test : (b : Bool) → adds r (es ++ gs) ≡ adds r es +ℤ adds r gs →
-          all_add (cond b (e ∷ filter (is_in_row s r) (es ++ gs)) (filter (is_in_row s r) (es ++ gs))) ≡ all_add (cond b (e ∷ filter (is_in_row s r) es) (filter (is_in_row s r) es)) +ℤ adds r gs
+          all_add (cond b (e ∷ filter (is_in_row s r) (es ++ gs)) (filter (is_in_row s r) (es ++ gs)))
+          ≡ all_add (cond b (e ∷ filter (is_in_row s r) es) (filter (is_in_row s r) es)) +ℤ adds r gs
       by_test true rest =
           let t : NetTerm = term_of s e in
-          ap (λ y. w t.coef *ℤ read_of x u k t.from +ℤ y) rest ∙ grouped (w t.coef *ℤ read_of x u k t.from) (adds r es) (adds r gs)
+          ap (λ y. w t.coef *ℤ read_of x u k t.from +ℤ y) rest
+          ∙ grouped (w t.coef *ℤ read_of x u k t.from) (adds r es) (adds r gs)
       by_test false rest = rest
 
   -- two parts, of which one stands elsewhere
@@ -59,10 +61,13 @@ module _ (s : Sizes) (w : Fraction → ℤ) (x u : ℕ → ℕ → ℤ) (k : ℕ
   pub adds_none : (p r : ℕ) (es : List Entry) → (p ≡ r → ⊥) → InRow s p es → adds r es ≡ pos 0
   adds_none p r es other h = ap all_add (elsewhere s p r es other h)
 
-  pub adds_its_row : (at n : ℕ) (f : ℕ → List Entry) → ((i : ℕ) → i < n → InRow s (at + i) (f i)) → (j r : ℕ) → j < n → at + j ≡ r → adds r (joined n f) ≡ all_add (f j)
-  adds_its_row at n f each j r h same = ap (λ p. adds p (joined n f)) (sym same) ∙ ap all_add (rows_here s at n f each j h)
+  pub adds_its_row : (at n : ℕ) (f : ℕ → List Entry) → ((i : ℕ) → i < n → InRow s (at + i) (f i)) → (j r : ℕ) → j < n →
+      at + j ≡ r → adds r (joined n f) ≡ all_add (f j)
+  adds_its_row at n f each j r h same = ap (λ p. adds p (joined n f)) (sym same)
+      ∙ ap all_add (rows_here s at n f each j h)
 
-  pub adds_no_row : (at n r : ℕ) (f : ℕ → List Entry) → ((i : ℕ) → i < n → InRow s (at + i) (f i)) → ((i : ℕ) → i < n → at + i ≡ r → ⊥) → adds r (joined n f) ≡ pos 0
+  pub adds_no_row : (at n r : ℕ) (f : ℕ → List Entry) → ((i : ℕ) → i < n → InRow s (at + i) (f i)) →
+      ((i : ℕ) → i < n → at + i ≡ r → ⊥) → adds r (joined n f) ≡ pos 0
   adds_no_row at n r f each other = ap all_add (rows_elsewhere s at r n f each other)
 
   -- coefficients across a row of a block that is read with its sign

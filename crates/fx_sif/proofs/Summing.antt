@@ -50,7 +50,8 @@ over-plain q c = by_test (eqb (unsigned_abs c.num) 0) refl
 abbrev plain_term : NetTerm → NetTerm
 plain_term t = record { coef = plain t.coef; from = t.from }
 
-plain_coefficient : (reads : NetRead → Bool) (c : Fraction) (ts : List NetTerm) → coefficient_or c reads (map plain_term ts) ≡ coefficient_or c reads ts
+plain_coefficient : (reads : NetRead → Bool) (c : Fraction) (ts : List NetTerm) →
+    coefficient_or c reads (map plain_term ts) ≡ coefficient_or c reads ts
 plain_coefficient reads c [] = refl
 plain_coefficient reads c (t ∷ ts) =
     plain_coefficient reads (cond (reads t.from) (plain (plain t.coef)) c) ts
@@ -68,7 +69,8 @@ same_itself (Old a) = eq-eqb a a refl
 same_itself (In a) = eq-eqb a a refl
 
 -- a row of a form reads what is there
-pub reads_there : (s : Sizes) (r : ℕ) (b : Block) (i j : ℕ) → s.u ≤ PORTS → i < height s b → j < width s b → is_read b i j ≡ true → row_place s b i ≡ r → ReadFits (rows s) 0 r (net_read s b j)
+pub reads_there : (s : Sizes) (r : ℕ) (b : Block) (i j : ℕ) → s.u ≤ PORTS → i < height s b → j < width s b →
+    is_read b i j ≡ true → row_place s b i ≡ r → ReadFits (rows s) 0 r (net_read s b j)
 reads_there s r J i j few h k read place = let below : j < i = ltb-true j i read in omega arith
 reads_there s r K i j few h k read place = omega arith
 reads_there s r L i j few h k read place = omega arith
@@ -81,44 +83,62 @@ reads_there s r S i j few h k read place = omega arith
 
 -- one more entry of a row, or of another
 in_row : (Claim : List NetTerm → Type 0) (s : Sizes) (r : ℕ) (e : Entry) (es : List Entry) →
-    (is_read e.block e.i e.j ≡ true → row_place s e.block e.i ≡ r → Claim (plain_term (term_of s e) ∷ plains s es r)) → Claim (plains s es r) → Claim (plains s (e ∷ es) r)
+    (is_read e.block e.i e.j ≡ true → row_place s e.block e.i ≡ r → Claim (plain_term (term_of s e) ∷ plains s es r)) →
+    Claim (plains s es r) → Claim (plains s (e ∷ es) r)
 in_row Claim s r e es here elsewhere = by_test (is_in_row s r e) refl
   where
-    by_test : (b : Bool) → is_in_row s r e ≡ b → Claim (map plain_term (map (term_of s) (cond b (e ∷ filter (is_in_row s r) es) (filter (is_in_row s r) es))))
-    by_test true h = let p = and_parts (is_read e.block e.i e.j) (eqb (row_place s e.block e.i) r) h in here p.0 (eqb-true (row_place s e.block e.i) r p.1)
+    by_test : (b : Bool) → is_in_row s r e ≡ b →
+        Claim (map plain_term (map (term_of s) (cond b (e ∷ filter (is_in_row s r) es) (filter (is_in_row s r) es))))
+    by_test true h = let p = and_parts (is_read e.block e.i e.j) (eqb (row_place s e.block e.i) r) h in
+        here p.0 (eqb-true (row_place s e.block e.i) r p.1)
     by_test false h = elsewhere
 
-all_fit : (s : Sizes) (r : ℕ) (es : List Entry) → s.u ≤ PORTS → All (EntryFits s) es → AllFit (rows s) 0 r (plains s es r)
+all_fit : (s : Sizes) (r : ℕ) (es : List Entry) → s.u ≤ PORTS → All (EntryFits s) es →
+    AllFit (rows s) 0 r (plains s es r)
 all_fit s r [] few fits = tt
 all_fit s r (e ∷ es) few fits =
     let rest = all_fit s r es few (All-tail (EntryFits s) e es fits) in
     let here = All-head (EntryFits s) e es fits in
-    in_row (AllFit (rows s) 0 r) s r e es (λ read place. (reads_there s r e.block e.i e.j few here.row here.column read place, rest)) rest
+    in_row (AllFit (rows s) 0 r) s r e es
+    (λ read place. (reads_there s r e.block e.i e.j few here.row here.column read place, rest)) rest
 
 -- entries of one row that read the same are in the same place
-apart_reads : (s : Sizes) (e g : Entry) → EntryFits s e → EntryFits s g → row_place s g.block g.i ≡ row_place s e.block e.i → same_place g e ≡ false → net_read s g.block g.j ≡ net_read s e.block e.j → ⊥
+apart_reads : (s : Sizes) (e g : Entry) → EntryFits s e → EntryFits s g →
+    row_place s g.block g.i ≡ row_place s e.block e.i → same_place g e ≡ false →
+    net_read s g.block g.j ≡ net_read s e.block e.j → ⊥
 apart_reads s e g fe fg place apart same =
-    let reads : same_read (net_read s e.block e.j) (net_read s g.block g.j) ≡ true = rw same (same_itself (net_read s e.block e.j)) in
-    let here : is_at e.block e.i e.j g ≡ true = sym (place_matches s e.block e.i e.j g fe.row fg) ∙ and_from _ _ (eq-eqb (row_place s g.block g.i) (row_place s e.block e.i) place) reads in
+    let reads : same_read (net_read s e.block e.j) (net_read s g.block g.j)
+    ≡ true = rw same (same_itself (net_read s e.block e.j)) in
+    let here : is_at e.block e.i e.j g ≡ true = sym (place_matches s e.block e.i e.j g fe.row fg)
+    ∙ and_from _ _ (eq-eqb (row_place s g.block g.i) (row_place s e.block e.i) place) reads in
     let p = stands_at e.block e.i e.j g here in
     let there : is_at g.block g.i g.j e ≡ true = stands_from g.block g.i g.j e (sym p.0) (sym p.1.0) (sym p.1.1) in
     true≢false (sym there ∙ apart)
 
-not_read : (s : Sizes) (r : ℕ) (e : Entry) (es : List Entry) → row_place s e.block e.i ≡ r → EntryFits s e → All (EntryFits s) es → All (λ g. same_place g e ≡ false) es → NotRead (net_read s e.block e.j) (plains s es r)
+not_read : (s : Sizes) (r : ℕ) (e : Entry) (es : List Entry) → row_place s e.block e.i ≡ r → EntryFits s e →
+    All (EntryFits s) es → All (λ g. same_place g e ≡ false) es → NotRead (net_read s e.block e.j) (plains s es r)
 not_read s r e [] place fe fits apart = tt
 not_read s r e (g ∷ es) place fe fits apart =
-    let rest = not_read s r e es place fe (All-tail (EntryFits s) g es fits) (All-tail (λ g. same_place g e ≡ false) g es apart) in
+    let rest = not_read s r e es place fe (All-tail (EntryFits s) g es fits)
+    (All-tail (λ g. same_place g e ≡ false) g es apart) in
     in_row (NotRead (net_read s e.block e.j)) s r g es
-    (λ read there. (apart_reads s e g fe (All-head (EntryFits s) g es fits) (there ∙ sym place) (All-head (λ g. same_place g e ≡ false) g es apart), rest))
+    (λ read there. (
+      apart_reads s e g fe (All-head (EntryFits s) g es fits) (there ∙ sym place) (All-head
+          (λ g. same_place g e ≡ false) g es apart),
+      rest,
+    ))
     rest
 
-once : (s : Sizes) (r : ℕ) (es : List Entry) → All (EntryFits s) es → IsDistinct (λ (e g : Entry). same_place g e) es → AreOnce (plains s es r)
+once : (s : Sizes) (r : ℕ) (es : List Entry) → All (EntryFits s) es → IsDistinct (λ (e g : Entry). same_place g e) es →
+    AreOnce (plains s es r)
 once s r [] fits apart = tt
 once s r (e ∷ es) fits apart =
-    let rest = once s r es (All-tail (EntryFits s) e es fits) (IsDistinct-tail (λ (e g : Entry). same_place g e) e es apart) in
+    let rest = once s r es (All-tail (EntryFits s) e es fits)
+    (IsDistinct-tail (λ (e g : Entry). same_place g e) e es apart) in
     in_row AreOnce s r e es
     (λ read place. (
-      not_read s r e es place (All-head (EntryFits s) e es fits) (All-tail (EntryFits s) e es fits) (distinct_head (λ (e g : Entry). same_place g e) e es apart),
+      not_read s r e es place (All-head (EntryFits s) e es fits) (All-tail (EntryFits s) e es fits)
+          (distinct_head (λ (e g : Entry). same_place g e) e es apart),
       plain-twice (on_the_right e.block e.coef),
       rest,
     ))
@@ -128,25 +148,31 @@ once s r (e ∷ es) fits apart =
 
 -- a row of the net alone has its row's coefficients
 pub row_is : (reads : NetRead → Bool) (f : Implicit) (r : ℕ) (c : Fraction) → r < rows f.sizes →
-    cond (nat_le 0 r && nat_lt r (0 + length (rows_of f))) (coefficient reads (row_of (rows_of f) (r - 0))) c ≡ coefficient reads (net_row f.sizes f.entries r)
+    cond (nat_le 0 r && nat_lt r (0 + length (rows_of f))) (coefficient reads (row_of (rows_of f) (r - 0))) c
+    ≡ coefficient reads (net_row f.sizes f.entries r)
 row_is reads f r c h =
-    cond-true _ _ _ (and_from _ _ (le-leb 0 r (omega arith)) (lt-ltb r (0 + length (rows_of f)) (omega (arith, h, length-rows f))))
+    cond-true _ _ _ (and_from _ _ (le-leb 0 r (omega arith)) (lt-ltb r (0 + length (rows_of f)) (omega
+    (arith, h, length-rows f))))
     ∙ ap (λ p. coefficient reads (row_of (rows_of f) p)) (let same : r - 0 ≡ r = omega arith in same)
     ∙ ap (coefficient reads) (row-rows f r h)
 
 row_has : (reads : NetRead → Bool) (f : Implicit) (r : ℕ) (c : Fraction) → r < rows f.sizes →
-    cond (nat_le 0 r && nat_lt r (0 + length (rows_of f))) (coefficient reads (row_of (rows_of f) (r - 0))) c ≡ coefficient reads (plains f.sizes f.entries r)
+    cond (nat_le 0 r && nat_lt r (0 + length (rows_of f))) (coefficient reads (row_of (rows_of f) (r - 0))) c
+    ≡ coefficient reads (plains f.sizes f.entries r)
 row_has reads f r c h = row_is reads f r c h ∙ sym (plain_coefficient reads zero_fraction (net_row f.sizes f.entries r))
 
-now_has : (f : Implicit) (r j : ℕ) → r < rows f.sizes → (net_alone f).now r j ≡ coefficient (reads_now 0 j) (plains f.sizes f.entries r)
+now_has : (f : Implicit) (r j : ℕ) → r < rows f.sizes →
+    (net_alone f).now r j ≡ coefficient (reads_now 0 j) (plains f.sizes f.entries r)
 unfolding put_rows
 now_has f r j h = row_has (reads_now 0 j) f r _ h
 
-old_has : (f : Implicit) (r j : ℕ) → r < rows f.sizes → (net_alone f).old r j ≡ coefficient (reads_old 0 j) (plains f.sizes f.entries r)
+old_has : (f : Implicit) (r j : ℕ) → r < rows f.sizes →
+    (net_alone f).old r j ≡ coefficient (reads_old 0 j) (plains f.sizes f.entries r)
 unfolding put_rows
 old_has f r j h = row_has (reads_old 0 j) f r _ h
 
-input_has : (f : Implicit) (r j : ℕ) → r < rows f.sizes → (net_alone f).input r j ≡ coefficient (reads_input j) (plains f.sizes f.entries r)
+input_has : (f : Implicit) (r j : ℕ) → r < rows f.sizes →
+    (net_alone f).input r j ≡ coefficient (reads_input j) (plains f.sizes f.entries r)
 unfolding put_rows
 input_has f r j h = row_has (reads_input j) f r _ h
 
@@ -155,7 +181,8 @@ unfolding put_rows
 rows_alone f = refl
 
 -- a row of the net alone has its row's terms
-has_terms : (f : Implicit) (r : ℕ) → ImplicitFits f → r < rows f.sizes → HasTerms (net_alone f) 0 r (plains f.sizes f.entries r)
+has_terms : (f : Implicit) (r : ℕ) → ImplicitFits f → r < rows f.sizes →
+    HasTerms (net_alone f) 0 r (plains f.sizes f.entries r)
 has_terms f r fits h =
     let first : 0 + r ≡ r = omega arith in
     let inside : 0 + r < rows f.sizes = omega (arith, h) in
@@ -170,14 +197,19 @@ has_terms f r fits h =
 
 -- ---- the sums
 
-value_is : (net : Net) (q : ℕ) (u z : ℕ → ℕ → ℤ) (k r : ℕ) (from : NetRead) → value_at 0 from (of_now q z k r) (of_old net q z k r) (of_input net q u k r) ≡ read_value net.rows q u z k r from
+value_is : (net : Net) (q : ℕ) (u z : ℕ → ℕ → ℤ) (k r : ℕ) (from : NetRead) →
+    value_at 0 from (of_now q z k r) (of_old net q z k r) (of_input net q u k r) ≡ read_value net.rows q u z k r from
 value_is net q u z k r (Now j) = let same : 0 + j ≡ j = omega arith in ap (of_now q z k r) same
 value_is net q u z k r (Old j) = let same : 0 + j ≡ j = omega arith in ap (of_old net q z k r) same
 value_is net q u z k r (In j) = refl
 
-sum_is : (net : Net) (q : ℕ) (u z : ℕ → ℕ → ℤ) (k r : ℕ) (ts : List NetTerm) → net_sum q 0 (map plain_term ts) (of_now q z k r) (of_old net q z k r) (of_input net q u k r) ≡ terms_value net.rows q u z k r ts
+sum_is : (net : Net) (q : ℕ) (u z : ℕ → ℕ → ℤ) (k r : ℕ) (ts : List NetTerm) →
+    net_sum q 0 (map plain_term ts) (of_now q z k r) (of_old net q z k r) (of_input net q u k r)
+    ≡ terms_value net.rows q u z k r ts
 sum_is net q u z k r [] = refl
-sum_is net q u z k r (t ∷ ts) = ap₂ (λ x y. x +ℤ y) (ap₂ (λ x y. x *ℤ y) (over-plain q t.coef) (value_is net q u z k r t.from)) (sum_is net q u z k r ts)
+sum_is net q u z k r (t ∷ ts) =
+    ap₂ (λ x y. x +ℤ y) (ap₂ (λ x y. x *ℤ y) (over-plain q t.coef) (value_is net q u z k r t.from))
+    (sum_is net q u z k r ts)
 
 pub runs_are_sums : (f : Implicit) → ImplicitFits f → RunsAreSums f
 runs_are_sums f fits q u z run k r h =
@@ -194,9 +226,13 @@ runs_are_sums f fits q u z run k r h =
 
 -- ---- denominators
 
-as_given : (q : ℕ) (ts : List NetTerm) → AllWhole q (map plain_term ts) → All (λ (t : NetTerm). IsWholeOver q (plain t.coef)) ts
+as_given : (q : ℕ) (ts : List NetTerm) → AllWhole q (map plain_term ts) →
+    All (λ (t : NetTerm). IsWholeOver q (plain t.coef)) ts
 as_given q [] whole = All-nil (λ (t : NetTerm). IsWholeOver q (plain t.coef))
-as_given q (t ∷ ts) whole = All-cons (λ (t : NetTerm). IsWholeOver q (plain t.coef)) t ts whole.0 (as_given q ts whole.1)
+as_given q (t ∷ ts) whole =
+    All-cons (λ (t : NetTerm). IsWholeOver q (plain t.coef)) t ts whole.0 (as_given q ts whole.1)
 
 pub denominators_divide : (f : Implicit) → ImplicitFits f → DenominatorsDivide f
-denominators_divide f fits q den r h = as_given q (net_row f.sizes f.entries r) (whole_terms (net_alone f) 0 q r (plains f.sizes f.entries r) den (has_terms f r fits h))
+denominators_divide f fits q den r h =
+    as_given q (net_row f.sizes f.entries r)
+    (whole_terms (net_alone f) 0 q r (plains f.sizes f.entries r) den (has_terms f r fits h))

@@ -18,7 +18,8 @@ use Rattle.fx_eqs.specs.declared.fault.EqsFault.{EqsFault}
 
 -- ---- what no fault means
 
-source_none : (rows inputs place : ℕ) (from : Source) (rest : Option EqsFault) → source_fault rows inputs place from rest ≡ None → SourceFits rows inputs from × (rest ≡ None)
+source_none : (rows inputs place : ℕ) (from : Source) (rest : Option EqsFault) →
+    source_fault rows inputs place from rest ≡ None → SourceFits rows inputs from × (rest ≡ None)
 source_none rows inputs place (Row j) rest e =
     let p = if_none _ _ _ e in
     (not_le rows j p.0, p.1)
@@ -34,7 +35,8 @@ record TermPasses (rows inputs : ℕ) (earlier : List Term) (t : Term) : Type 0 
   fits : is_kept t ≡ true → TermFits rows inputs t
   once : list_any (is_same_read t) (kept earlier) ≡ false
 
-kept_term_none : (rows inputs : ℕ) (earlier : List Term) (t : Term) → kept_term_fault rows inputs earlier t ≡ None → TermPasses rows inputs earlier t
+kept_term_none : (rows inputs : ℕ) (earlier : List Term) (t : Term) → kept_term_fault rows inputs earlier t ≡ None →
+    TermPasses rows inputs earlier t
 kept_term_none rows inputs earlier t e =
     let row = if_none _ _ _ e in
     let source = source_none rows inputs (length earlier) t.from _ row.1 in
@@ -55,17 +57,20 @@ kept_term_none rows inputs earlier t e =
 -- ---- all terms
 
 -- the kept terms of a list with one in front
-kept_cons : (P : List Term → Type 0) (t : Term) (ts : List Term) → (is_kept t ≡ true → P (t ∷ kept ts)) → (is_kept t ≡ false → P (kept ts)) → P (kept (t ∷ ts))
+kept_cons : (P : List Term → Type 0) (t : Term) (ts : List Term) → (is_kept t ≡ true → P (t ∷ kept ts)) →
+    (is_kept t ≡ false → P (kept ts)) → P (kept (t ∷ ts))
 kept_cons P t ts y n = by_test (is_kept t) refl
   where
     by_test : (b : Bool) → is_kept t ≡ b → P (cond b (t ∷ kept ts) (kept ts))
     by_test true e = y e
     by_test false e = n e
 
-passes : (rows inputs : ℕ) (earlier : List Term) (t : Term) → is_kept t ≡ true → term_fault rows inputs earlier t ≡ None → TermPasses rows inputs earlier t
+passes : (rows inputs : ℕ) (earlier : List Term) (t : Term) → is_kept t ≡ true →
+    term_fault rows inputs earlier t ≡ None → TermPasses rows inputs earlier t
 passes rows inputs earlier t keeps e = kept_term_none rows inputs earlier t (rw keeps at e)
 
-terms_fit : (rows inputs : ℕ) (earlier ts : List Term) → terms_fault rows inputs earlier ts ≡ None → All (TermFits rows inputs) (kept ts)
+terms_fit : (rows inputs : ℕ) (earlier ts : List Term) → terms_fault rows inputs earlier ts ≡ None →
+    All (TermFits rows inputs) (kept ts)
 terms_fit rows inputs earlier [] e = All-nil (TermFits rows inputs)
 terms_fit rows inputs earlier (t ∷ ts) e =
     let p = or_none _ _ e in
@@ -75,22 +80,33 @@ terms_fit rows inputs earlier (t ∷ ts) e =
     (λ drops. rest)
 
 -- a test that no element of a list passes, fails at each
-fails_at : (test : Term → Bool) (before after : List Term) (e : Term) → list_any test (before ++ e ∷ after) ≡ false → test e ≡ false
+fails_at : (test : Term → Bool) (before after : List Term) (e : Term) → list_any test (before ++ e ∷ after) ≡ false →
+    test e ≡ false
 fails_at test [] after e h = (or_parts (test e) (list_any test after) h).0
-fails_at test (b ∷ before) after e h = fails_at test before after e (or_parts (test b) (list_any test (before ++ e ∷ after)) h).1
+fails_at test (b ∷ before) after e h =
+    fails_at test before after e (or_parts (test b) (list_any test (before ++ e ∷ after)) h).1
 
 -- a kept term among the earlier ones differs from all kept ones behind
-apart : (rows inputs : ℕ) (earlier before after : List Term) (e : Term) (ts : List Term) → kept earlier ≡ before ++ e ∷ after → terms_fault rows inputs earlier ts ≡ None → AllByRecursion (λ (t : Term). is_same_read t e ≡ false) (kept ts)
+apart : (rows inputs : ℕ) (earlier before after : List Term) (e : Term) (ts : List Term) →
+    kept earlier ≡ before ++ e ∷ after → terms_fault rows inputs earlier ts ≡ None →
+    AllByRecursion (λ (t : Term). is_same_read t e ≡ false) (kept ts)
 apart rows inputs earlier before after e [] same h = tt
 apart rows inputs earlier before after e (t ∷ ts) same h =
     let p = or_none _ _ h in
-    let more : kept (earlier ++ t ∷ []) ≡ before ++ e ∷ (after ++ kept (t ∷ [])) = filter-append is_kept earlier (t ∷ []) ∙ ap (λ x. x ++ kept (t ∷ [])) same ∙ append_assoc before (e ∷ after) (kept (t ∷ [])) in
+    let more : kept (earlier ++ t ∷ [])
+    ≡ before ++ e ∷ (after ++ kept (t ∷ [])) = filter-append is_kept earlier (t ∷ [])
+    ∙ ap (λ x. x ++ kept (t ∷ [])) same ∙ append_assoc before (e ∷ after) (kept (t ∷ [])) in
     let rest = apart rows inputs (earlier ++ t ∷ []) before (after ++ kept (t ∷ [])) e ts more p.1 in
     kept_cons (AllByRecursion (λ (x : Term). is_same_read x e ≡ false)) t ts
-    (λ keeps. (fails_at (is_same_read t) before after e (ap (list_any (is_same_read t)) (sym same) ∙ (passes rows inputs earlier t keeps p.0).once), rest))
+    (λ keeps. (
+      fails_at (is_same_read t) before after e
+          (ap (list_any (is_same_read t)) (sym same) ∙ (passes rows inputs earlier t keeps p.0).once),
+      rest,
+    ))
     (λ drops. rest)
 
-once_each : (rows inputs : ℕ) (earlier ts : List Term) → terms_fault rows inputs earlier ts ≡ None → IsDistinct (λ (e t : Term). is_same_read t e) (kept ts)
+once_each : (rows inputs : ℕ) (earlier ts : List Term) → terms_fault rows inputs earlier ts ≡ None →
+    IsDistinct (λ (e t : Term). is_same_read t e) (kept ts)
 unfolding IsDistinct
 once_each rows inputs earlier [] e = tt
 once_each rows inputs earlier (t ∷ ts) e =
@@ -98,13 +114,16 @@ once_each rows inputs earlier (t ∷ ts) e =
     let rest = once_each rows inputs (earlier ++ t ∷ []) ts p.1 in
     kept_cons (IsDistinct (λ (e t : Term). is_same_read t e)) t ts
     (λ keeps.
-    let last : kept (earlier ++ t ∷ []) ≡ kept earlier ++ t ∷ [] = filter-append is_kept earlier (t ∷ []) ∙ ap (λ b. kept earlier ++ cond b (t ∷ []) []) keeps in
+    let last : kept (earlier ++ t ∷ []) ≡ kept earlier ++ t ∷ [] = filter-append is_kept earlier (t ∷ [])
+    ∙ ap (λ b. kept earlier ++ cond b (t ∷ []) []) keeps in
     (apart rows inputs (earlier ++ t ∷ []) (kept earlier) [] t ts last p.1, rest))
     (λ drops. rest)
 
 -- ---- the system
 
-pub system_fits : (rows inputs : ℕ) (terms : List Term) (outputs : List ℕ) → 1 ≤ inputs → inputs ≤ PORTS → 1 ≤ length outputs → length outputs ≤ PORTS → (1 ≤ rows → All (λ o. o < rows) outputs) → eqs_fault rows inputs terms ≡ None →
+pub system_fits : (rows inputs : ℕ) (terms : List Term) (outputs : List ℕ) → 1 ≤ inputs → inputs ≤ PORTS →
+    1 ≤ length outputs → length outputs ≤ PORTS → (1 ≤ rows → All (λ o. o < rows) outputs) →
+    eqs_fault rows inputs terms ≡ None →
     EquationsFit (record { rows = rows; inputs = inputs; terms = kept terms; outputs = outputs })
 system_fits rows inputs terms outputs inputs_low inputs_high outputs_low outputs_high outputs_below e =
     let each = or_none _ _ e in

@@ -39,27 +39,37 @@ right_fits R c h = h
 right_fits S c h = h
 
 -- what the terms of a row take of a source
-row_fits : (reads : NetRead → Bool) (s : Sizes) (r : ℕ) (es : List Entry) (c : Fraction) → CoefficientsFit es → DenFits c.den → DenFits (coefficient_or c reads (net_row s es r)).den
+row_fits : (reads : NetRead → Bool) (s : Sizes) (r : ℕ) (es : List Entry) (c : Fraction) → CoefficientsFit es →
+    DenFits c.den → DenFits (coefficient_or c reads (net_row s es r)).den
 row_fits reads s r [] c fits h = h
 row_fits reads s r (e ∷ es) c fits h =
-    let rest : (d : Fraction) → DenFits d.den → DenFits (coefficient_or d reads (net_row s es r)).den = λ d. row_fits reads s r es d (All-tail (λ (e : Entry). DenFits e.coef.den) e es fits) in
+    let rest : (d : Fraction) → DenFits d.den →
+    DenFits (coefficient_or d reads (net_row s es r)).den =
+    λ d. row_fits reads s r es d (All-tail (λ (e : Entry). DenFits e.coef.den) e es fits) in
     by_row rest (is_in_row s r e)
   where
     t : Fraction
     t = plain (on_the_right e.block e.coef)
 
     taken_fits : (b : Bool) → DenFits (cond b t c).den
-    taken_fits true = plain_fits (on_the_right e.block e.coef) (right_fits e.block e.coef (All-head (λ (e : Entry). DenFits e.coef.den) e es fits))
+    taken_fits true = plain_fits (on_the_right e.block e.coef)
+        (right_fits e.block e.coef (All-head (λ (e : Entry). DenFits e.coef.den) e es fits))
     taken_fits false = h
 
-    by_row : ((d : Fraction) → DenFits d.den → DenFits (coefficient_or d reads (net_row s es r)).den) → (b : Bool) → DenFits (coefficient_or c reads (map (term_of s) (cond b (e ∷ filter (is_in_row s r) es) (filter (is_in_row s r) es)))).den
+    by_row : ((d : Fraction) → DenFits d.den → DenFits (coefficient_or d reads (net_row s es r)).den) → (b : Bool) →
+        DenFits (coefficient_or c reads
+        (map (term_of s) (cond b (e ∷ filter (is_in_row s r) es) (filter (is_in_row s r) es)))).den
     by_row rest true = rest (cond (reads (term_of s e).from) t c) (taken_fits (reads (term_of s e).from))
     by_row rest false = rest c h
 
 -- what a row of the net alone takes of a source
-table_fits : (f : Implicit) (reads : NetRead → Bool) (r : ℕ) (c : Fraction) → CoefficientsFit f.entries → r < rows f.sizes →
-    DenFits (cond (nat_le 0 r && nat_lt r (0 + length (rows_of f))) (coefficient reads (row_of (rows_of f) (r - 0))) c).den
-table_fits f reads r c fits h = subst (λ (x : Fraction). DenFits x.den) (sym (row_is reads f r c h)) (row_fits reads f.sizes r f.entries zero_fraction fits (omega arith))
+table_fits : (f : Implicit) (reads : NetRead → Bool) (r : ℕ) (c : Fraction) → CoefficientsFit f.entries →
+    r < rows f.sizes →
+    DenFits (cond (nat_le 0 r && nat_lt r (0 + length (rows_of f)))
+    (coefficient reads (row_of (rows_of f) (r - 0))) c).den
+table_fits f reads r c fits h =
+    subst (λ (x : Fraction). DenFits x.den) (sym (row_is reads f r c h))
+    (row_fits reads f.sizes r f.entries zero_fraction fits (omega arith))
 
 pub form_over_widest : (f : Implicit) → CoefficientsFit f.entries → IsDenominator (net_alone f) widest
 unfolding put_rows

@@ -38,7 +38,8 @@ taken net at r (In s) = net.input (at + r) s
 abbrev pub HasBlocks : Implicit → ℕ → Net → Type 0
 HasBlocks f at net =
     (block : Block) (i j : ℕ) → i < height f.sizes block → j < width f.sizes block → is_read block i j ≡ true →
-    taken net at (row_place f.sizes block i) (net_read f.sizes block j) ≡ plain (on_the_right block (entry_of f block i j))
+    taken net at (row_place f.sizes block i) (net_read f.sizes block j)
+    ≡ plain (on_the_right block (entry_of f block i j))
 
 -- so it is in each net with the rows of the form
 abbrev pub NetsHaveBlocks : Implicit → Type 0

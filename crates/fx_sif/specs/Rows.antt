@@ -1,4 +1,5 @@
--- The rows of an implicit form in a net: each row reads rows of this moment or of the one before, and inputs of this moment.
+-- The rows of an implicit form in a net: each row reads rows of this moment or of the one before, and inputs of this
+-- moment.
 use Rattle.std.specs.Prelude.{ℕ, ◌+◌, ◌==◌, ◌&&◌, nat_lt, cond, Bool, true, List, [], ◌∷◌, map, filter}
 use Rattle.fx_math.specs.Sums.{joined}
 use Rattle.fx_nums.specs.Fraction.{Fraction, minus}
@@ -12,7 +13,8 @@ use Rattle.fx_sif.specs.declared.parts.Block.TheVariants.{J, K, L, M, N, P, Q, R
 use Rattle.fx_sif.specs.declared.parts.Entry.{Entry}
 use Rattle.fx_sif.specs.declared.parts.Sizes.{Sizes}
 
--- the rows of the intermediate variables come first, then those of the states behind the moment, then those of the outputs
+-- the rows of the intermediate variables come first, then those of the states behind the moment, then those of the
+-- outputs
 abbrev pub row_place : Sizes → Block → ℕ → ℕ
 row_place s J i = i
 row_place s K i = s.t + i
@@ -24,7 +26,8 @@ row_place s Q i = s.t + i
 row_place s R i = s.t + s.x + i
 row_place s S i = s.t + s.x + i
 
--- J, K and L read intermediate variables of this moment, M, P and R the states that the moment before left, N, Q and S inputs
+-- J, K and L read intermediate variables of this moment, M, P and R the states that the moment before left, N, Q and S
+-- inputs
 abbrev pub net_read : Sizes → Block → ℕ → NetRead
 net_read s J j = Now j
 net_read s K j = Now j
@@ -64,7 +67,8 @@ rows_of f = joined (rows f.sizes) (λ r. net_row f.sizes f.entries r ∷ [])
 -- ---- one entry after another, where the rows stand from a place on
 
 abbrev pub put_entry : Sizes → ℕ → Entry → Net → Net
-put_entry s at e net = cond (is_read e.block e.i e.j) (put_term at (row_place s e.block e.i) (on_the_right e.block e.coef) (net_read s e.block e.j) net) net
+put_entry s at e net = cond (is_read e.block e.i e.j)
+    (put_term at (row_place s e.block e.i) (on_the_right e.block e.coef) (net_read s e.block e.j) net) net
 
 abbrev pub put_entries : Sizes → ℕ → List Entry → Net → Net
 put_entries s at [] net = net

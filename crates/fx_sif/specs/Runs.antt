@@ -30,4 +30,5 @@ RunsAreSums f =
 -- a denominator of the net is one of each row's terms; that of a coefficient of value 0 does not count
 abbrev pub DenominatorsDivide : Implicit → Type 0
 DenominatorsDivide f =
-    (q : ℕ) → IsDenominator (net_alone f) q → (r : ℕ) → r < rows f.sizes → All (λ (t : NetTerm). IsWholeOver q (plain t.coef)) (net_row f.sizes f.entries r)
+    (q : ℕ) → IsDenominator (net_alone f) q → (r : ℕ) → r < rows f.sizes →
+    All (λ (t : NetTerm). IsWholeOver q (plain t.coef)) (net_row f.sizes f.entries r)

@@ -30,4 +30,5 @@ IsSameOutput f eqs q g u z k o =
 pub record HasOutputs (f : Implicit) (eqs : Equations) : Type 0 where
   pub inputs : f.sizes.u ≡ eqs.inputs
   pub outputs : f.sizes.y ≡ length eqs.outputs
-  pub same : (q g : ℕ) (u z : ℕ → ℕ → ℤ) → IsDenominator (net_alone f) q → DividesEach g eqs.terms → IsRun (net_alone f) q u z (λ k i. pos 0) → (k o : ℕ) → o < f.sizes.y → IsSameOutput f eqs q g u z k o
+  pub same : (q g : ℕ) (u z : ℕ → ℕ → ℤ) → IsDenominator (net_alone f) q → DividesEach g eqs.terms →
+      IsRun (net_alone f) q u z (λ k i. pos 0) → (k o : ℕ) → o < f.sizes.y → IsSameOutput f eqs q g u z k o

@@ -59,7 +59,8 @@ pub fn add_across(
     Ok(())
 }
 
-/// Coefficients of row `i` of a block with the other sign, in column `first` and the next ones. Its error is want of memory.
+/// Coefficients of row `i` of a block with the other sign, in column `first` and the next ones. Its error is
+/// want of memory.
 pub fn add_against(
     entries: &mut Vec<Entry>,
     block: Block,
@@ -97,8 +98,8 @@ fn add_delay_row(
     add_entry(entries, Block::P, at + i, at + i - 1, Frac::one())
 }
 
-/// States from `at` on, so many, that pass a value on: the first takes what a column of the block reads, each further one
-/// the state before it. Its error is want of memory.
+/// States from `at` on, so many, that pass a value on: the first takes what a column of the block reads, each
+/// further one the state before it. Its error is want of memory.
 pub fn add_delays(
     entries: &mut Vec<Entry>,
     block: Block,

@@ -22,9 +22,9 @@ use fx_nums::Frac;
 use std::alloc::{AllocError, Global};
 use std::marker::Model;
 
-/// A filter in the Specialized Implicit Form (SIF), by Hilaire, Chevrel and Whidborne. J is lower triangular with ones on
-/// its diagonal, so the intermediate variables are computed one after the other. Each form keeps the limits that its making
-/// tests.
+/// A filter in the Specialized Implicit Form (SIF), by Hilaire, Chevrel and Whidborne. J is lower triangular
+/// with ones on its diagonal, so the intermediate variables are computed one after the other. Each form keeps
+/// the limits that its making tests.
 #[derive(Drop)]
 pub struct Sif {
     sizes: Sizes,

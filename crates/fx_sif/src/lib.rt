@@ -1,5 +1,5 @@
-//! Filters in the Specialized Implicit Form (SIF), by Hilaire, Chevrel and Whidborne: intermediate variables, states and
-//! outputs, each a row of a matrix.
+//! Filters in the Specialized Implicit Form (SIF), by Hilaire, Chevrel and Whidborne: intermediate variables,
+//! states and outputs, each a row of a matrix.
 #![tactic(auto)]
 
 mod checks;

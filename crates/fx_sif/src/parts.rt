@@ -1,8 +1,8 @@
 use fx_nums::Frac;
 
-/// The nine blocks of `J t' = M x + N u`, `x' = K t' + P x + Q u`, `y = L t' + R x + S u`. Here u are the inputs and
-/// y the outputs of a moment, x the states before it and x' those behind it, and t' the moment's intermediate variables. As
-/// counts, t, x, u and y are those of `Sizes`.
+/// The nine blocks of `J t' = M x + N u`, `x' = K t' + P x + Q u`, `y = L t' + R x + S u`. Here u are the
+/// inputs and y the outputs of a moment, x the states before it and x' those behind it, and t' the moment's
+/// intermediate variables. As counts, t, x, u and y are those of `Sizes`.
 #[derive(Clone, Copy, Debug, PartialEq, Eq)]
 pub enum Block {
     /// t rows and t columns.
@@ -38,7 +38,8 @@ pub struct Entry {
     pub coef: Frac,
 }
 
-/// How many intermediate variables, states, inputs and outputs there are. The rows, `t + x + y`, are at most `FORM_ROWS`.
+/// How many intermediate variables, states, inputs and outputs there are. The rows, `t + x + y`, are at most
+/// `FORM_ROWS`.
 #[derive(Clone, Copy, Debug, PartialEq, Eq)]
 pub struct Sizes {
     /// Intermediate variables: 0 to 39.

@@ -120,6 +120,8 @@ space_count s abcd fits =
       d,
     )
 
-pub space_never_refused : (s : Sizes) (abcd : List Fraction) → SpaceFits s abcd → WhatFitsHasNoFault → NeverRefused (space_form s abcd)
+pub space_never_refused : (s : Sizes) (abcd : List Fraction) → SpaceFits s abcd → WhatFitsHasNoFault →
+    NeverRefused (space_form s abcd)
 space_never_refused s abcd fits law =
-    never_from base (space_form s abcd) 400000 (counts_fit s abcd fits) (space_count s abcd fits) (space_ascends s abcd fits) law
+    never_from base (space_form s abcd) 400000 (counts_fit s abcd fits) (space_count s abcd fits)
+    (space_ascends s abcd fits) law

@@ -53,7 +53,8 @@ module _ (w : Fraction → ℤ) (y v : ℕ → ℕ → ℤ) (k i : ℕ) where
 
   other_pair : (row n m : ℕ) (x u : List Fraction) → (row ≡ i → ⊥) → lag_sum w y v k i (pair_of row n m x u) ≡ pos 0
   other_pair row n m x u other =
-      lag_sum-front w y v k i (over_sources row (λ j. Row j) 1 0 (take n x)) (over_sources row (λ j. In j) 0 0 (take m u))
+      lag_sum-front w y v k i (over_sources row (λ j. Row j) 1 0 (take n x))
+      (over_sources row (λ j. In j) 0 0 (take m u))
       (lag_sum-other_sources w y v k i row (λ j. In j) 0 0 (take m u) other)
       ∙ lag_sum-other_sources w y v k i row (λ j. Row j) 1 0 (take n x) other
 
@@ -68,7 +69,8 @@ module _ (w : Fraction → ℤ) (y v : ℕ → ℕ → ℤ) (k i : ℕ) where
       ∙ other_pair row n m x u (λ same. elim apart [ inl h ↦ omega (arith, h, same) | inr h ↦ omega (arith, h, same) ])
 
   its_row : (count row n m : ℕ) (x u : List Fraction) (j : ℕ) → j < count → row + j ≡ i →
-      lag_sum w y v k i (matrix_rows count row n m x u) ≡ lag_sum w y v k i (pair_of i n m (drop (j * n) x) (drop (j * m) u))
+      lag_sum w y v k i (matrix_rows count row n m x u)
+      ≡ lag_sum w y v k i (pair_of i n m (drop (j * n) x) (drop (j * m) u))
   its_row zero row n m x u j h same = absurd (omega arith)
   its_row (suc count) row n m x u zero h same =
       let rest = matrix_rows count (row + 1) n m (drop n x) (drop m u) in
@@ -81,8 +83,10 @@ module _ (w : Fraction → ℤ) (y v : ℕ → ℕ → ℤ) (k i : ℕ) where
       ∙ ap (λ d. lag_sum w y v k i (pair_of i n m (drop (zero * n) x) (drop d u))) (none m)
   its_row (suc count) row n m x u (suc j) h same =
       let rest = matrix_rows count (row + 1) n m (drop n x) (drop m u) in
-      let first : drop (j * n) (drop n x) ≡ drop (suc j * n) x = drop-drop (j * n) n x ∙ ap (λ d. drop d x) (omega arith) in
-      let second : drop (j * m) (drop m u) ≡ drop (suc j * m) u = drop-drop (j * m) m u ∙ ap (λ d. drop d u) (omega arith) in
+      let first : drop (j * n) (drop n x) ≡ drop (suc j * n) x = drop-drop (j * n) n x
+      ∙ ap (λ d. drop d x) (omega arith) in
+      let second : drop (j * m) (drop m u) ≡ drop (suc j * m) u = drop-drop (j * m) m u
+      ∙ ap (λ d. drop d u) (omega arith) in
       lag_sum-back w y v k i (pair_of row n m x u) rest (other_pair row n m x u (λ e. omega (arith, e, same)))
       ∙ its_row count (row + 1) n m (drop n x) (drop m u) j (omega arith) (omega arith)
       ∙ ap₂ (λ a b. lag_sum w y v k i (pair_of i n m a b)) first second
@@ -97,16 +101,21 @@ rows_suit q (suc count) row n m x u of_x of_u =
     let states = over_sources row (λ j. Row j) 1 0 (take n x) in
     let inputs = over_sources row (λ j. In j) 0 0 (take m u) in
     let none : (n : ℕ) → zero * n ≡ 0 = λ n. omega arith in
-    let next : (n j : ℕ) (cs : List Fraction) → drop (suc j * n) cs ≡ drop (j * n) (drop n cs) = λ n j cs. sym (drop-drop (j * n) n cs ∙ ap (λ d. drop d cs) (omega arith)) in
+    let next : (n j : ℕ) (cs : List Fraction) →
+    drop (suc j * n) cs ≡ drop (j * n) (drop n cs) =
+    λ n j cs. sym (drop-drop (j * n) n cs ∙ ap (λ d. drop d cs) (omega arith)) in
     All-append T (states ++ inputs) (matrix_rows count (row + 1) n m (drop n x) (drop m u))
     (All-append T states inputs
-    (sources_suit q row (λ j. Row j) 1 0 (take n x) (subst (λ d. Suits q (take n (drop d x))) (none n) (of_x 0 (omega arith))))
-    (sources_suit q row (λ j. In j) 0 0 (take m u) (subst (λ d. Suits q (take m (drop d u))) (none m) (of_u 0 (omega arith)))))
+    (sources_suit q row (λ j. Row j) 1 0 (take n x)
+    (subst (λ d. Suits q (take n (drop d x))) (none n) (of_x 0 (omega arith))))
+    (sources_suit q row (λ j. In j) 0 0 (take m u)
+    (subst (λ d. Suits q (take m (drop d u))) (none m) (of_u 0 (omega arith)))))
     (rows_suit q count (row + 1) n m (drop n x) (drop m u)
     (λ j h. subst (λ cs. Suits q (take n cs)) (next n j x) (of_x (suc j) (omega arith)))
     (λ j h. subst (λ cs. Suits q (take m cs)) (next m j u) (of_u (suc j) (omega arith))))
 
-block_suits : (q : ℕ) (b : Block) (rows columns : ℕ) (cs : List Fraction) → All (IsSuited q) (block_of b rows columns cs) →
+block_suits : (q : ℕ) (b : Block) (rows columns : ℕ) (cs : List Fraction) →
+    All (IsSuited q) (block_of b rows columns cs) →
     ((i j : ℕ) → is_read b i j ≡ true) → ((c : Fraction) → on_the_right b c ≡ c) → (i : ℕ) → i < rows →
     Suits q (matrix_row columns cs i)
 block_suits q b rows columns cs all read plus i h =
@@ -168,7 +177,8 @@ module _ (s : Sizes) (abcd : List Fraction) (fits : SpaceFits s abcd) where
       let long = up_from-long n p in
       let low = fits.outputs_low in
       let high = fits.outputs_high in
-      system_fits (n + p) m (ss_terms n m p A B C D) (up_from n p) fits.inputs_low fits.inputs_high (omega (arith, long, low))
+      system_fits (n + p) m (ss_terms n m p A B C D) (up_from n p) fits.inputs_low fits.inputs_high
+      (omega (arith, long, low))
       (omega (arith, long, high)) (λ h. up_from-below n p (n + p) (omega arith))
       (ss_has_no_fault n m p A B C D fits.states fits.inputs_high fits.outputs_low fits.outputs_high)
 
@@ -176,13 +186,16 @@ module _ (s : Sizes) (abcd : List Fraction) (fits : SpaceFits s abcd) where
       All (λ (t : Term). IsWholeOver q t.coef) (space_equations s abcd).terms
   suited q d =
       let T = IsSuited q in
-      let all = all_of_both T (of_a ++ of_b ++ of_c) of_d (entries_suited (space_form s abcd) (space_fits s abcd fits) q d) in
+      let all = all_of_both T (of_a ++ of_b ++ of_c) of_d
+      (entries_suited (space_form s abcd) (space_fits s abcd fits) q d) in
       let front = all_of_both T (of_a ++ of_b) of_c all.0 in
       let first = all_of_both T of_a of_b front.0 in
       kept_whole q (ss_terms n m p A B C D)
       (All-append (λ (t : Term). IsWholeOver q (plain t.coef)) (matrix_rows n 0 n m A B) (matrix_rows p n n m C D)
-      (rows_suit q n 0 n m A B (block_suits q P n n A first.0 (λ i j. refl) (λ c. refl)) (block_suits q Q n m B first.1 (λ i j. refl) (λ c. refl)))
-      (rows_suit q p n n m C D (block_suits q R p n C front.1 (λ i j. refl) (λ c. refl)) (block_suits q S p m D all.1 (λ i j. refl) (λ c. refl))))
+      (rows_suit q n 0 n m A B (block_suits q P n n A first.0 (λ i j. refl) (λ c. refl))
+      (block_suits q Q n m B first.1 (λ i j. refl) (λ c. refl)))
+      (rows_suit q p n n m C D (block_suits q R p n C front.1 (λ i j. refl) (λ c. refl))
+      (block_suits q S p m D all.1 (λ i j. refl) (λ c. refl))))
 
   module _ (q g last : ℕ) (x y u : ℕ → ℕ → ℤ) (positive : 0 < q * g) (meet : RowsMeet (space_form s abcd) q g last x u)
       (theirs : EquationsMeet (space_equations s abcd) q g last y u) where
@@ -198,15 +211,18 @@ module _ (s : Sizes) (abcd : List Fraction) (fits : SpaceFits s abcd) where
     of_terms : (k i : ℕ) → lag_sum w y u k i (space_equations s abcd).terms ≡ lag_sum w y u k i (ss_terms n m p A B C D)
     of_terms k i = lag_sum-kept w y u k i (λ c none. no_weight q g c none) (ss_terms n m p A B C D)
 
-    state_equation : (k i : ℕ) → k ≤ last → i < n → pos (q * g) *ℤ y k i ≡ sums y k (matrix_row n A i) (matrix_row m B i)
+    state_equation : (k i : ℕ) → k ≤ last → i < n →
+        pos (q * g) *ℤ y k i ≡ sums y k (matrix_row n A i) (matrix_row m B i)
     state_equation k i h l =
         theirs k i h (omega arith)
         ∙ of_terms k i
-        ∙ lag_sum-front w y u k i (matrix_rows n 0 n m A B) (matrix_rows p n n m C D) (other_rows w y u k i p n n m C D (inl l))
+        ∙ lag_sum-front w y u k i (matrix_rows n 0 n m A B) (matrix_rows p n n m C D)
+        (other_rows w y u k i p n n m C D (inl l))
         ∙ its_row w y u k i n 0 n m A B i l (omega arith)
         ∙ pair_sum w y u k i n m (drop (i * n) A) (drop (i * m) B)
 
-    output_equation : (k o : ℕ) → k ≤ last → o < p → pos (q * g) *ℤ y k (n + o) ≡ sums y k (matrix_row n C o) (matrix_row m D o)
+    output_equation : (k o : ℕ) → k ≤ last → o < p →
+        pos (q * g) *ℤ y k (n + o) ≡ sums y k (matrix_row n C o) (matrix_row m D o)
     output_equation k o h l =
         theirs k (n + o) h (omega arith)
         ∙ of_terms k (n + o)
@@ -236,27 +252,39 @@ module _ (s : Sizes) (abcd : List Fraction) (fits : SpaceFits s abcd) where
     none_behind a b e = rw e (omega (arith, ints))
 
     -- what row r has of the states' blocks and of the outputs'
-    four_parts : (k r : ℕ) → adds s w x u k r (space_entries s abcd) ≡ ((adds s w x u k r of_a +ℤ adds s w x u k r of_b) +ℤ adds s w x u k r of_c) +ℤ adds s w x u k r of_d
+    four_parts : (k r : ℕ) →
+        adds s w x u k r (space_entries s abcd)
+        ≡ ((adds s w x u k r of_a +ℤ adds s w x u k r of_b) +ℤ adds s w x u k r of_c) +ℤ adds s w x u k r of_d
     four_parts k r =
         adds_both s w x u k r (of_a ++ of_b ++ of_c) of_d
         ∙ ap (λ z. z +ℤ adds s w x u k r of_d)
-        (adds_both s w x u k r (of_a ++ of_b) of_c ∙ ap (λ z. z +ℤ adds s w x u k r of_c) (adds_both s w x u k r of_a of_b))
+        (adds_both s w x u k r (of_a ++ of_b) of_c
+        ∙ ap (λ z. z +ℤ adds s w x u k r of_c) (adds_both s w x u k r of_a of_b))
 
     state_read : (k j : ℕ) → before x k (s.t + j) ≡ ago (λ k. x k j) k 1
     state_read zero j = refl
-    state_read (suc k) j = let no_variable = fits.variables in let e : s.t + j ≡ j = omega (arith, no_variable) in ap (x k) e
+    state_read (suc k) j = let no_variable = fits.variables in let e : s.t + j ≡ j = omega (arith, no_variable) in
+        ap (x k) e
 
-    over_states : (k : ℕ) (cs : List Fraction) → column_sum w (λ j. before x k (s.t + j)) 0 cs ≡ column_sum w (λ j. ago (λ k. x k j) k 1) 0 cs
-    over_states k cs = column_sum-same w (λ j. before x k (s.t + j)) (λ j. ago (λ k. x k j) k 1) (0 + length cs) 0 cs (omega arith) (λ j h. state_read k j)
+    over_states : (k : ℕ) (cs : List Fraction) →
+        column_sum w (λ j. before x k (s.t + j)) 0 cs ≡ column_sum w (λ j. ago (λ k. x k j) k 1) 0 cs
+    over_states k cs = column_sum-same w (λ j. before x k (s.t + j)) (λ j. ago (λ k. x k j) k 1) (0 + length cs) 0 cs
+        (omega arith) (λ j h. state_read k j)
 
-    state_form : (k i : ℕ) → k ≤ last → i < n → pos (q * g) *ℤ x k (s.t + i) ≡ sums x k (matrix_row n A i) (matrix_row m B i)
+    state_form : (k i : ℕ) → k ≤ last → i < n →
+        pos (q * g) *ℤ x k (s.t + i) ≡ sums x k (matrix_row n A i) (matrix_row m B i)
     state_form k i h l =
         let r : ℕ = s.t + i in
-        let no_c : adds s w x u k r of_c ≡ pos 0 = adds_no_row s w x u k (s.t + s.x) p r (λ i. across R i 0 (matrix_row n C i)) each_c (λ i b same. omega (arith, same, l)) in
-        let no_d : adds s w x u k r of_d ≡ pos 0 = adds_no_row s w x u k (s.t + s.x) p r (λ i. across S i 0 (matrix_row m D i)) each_d (λ i b same. omega (arith, same, l)) in
+        let no_c : adds s w x u k r of_c
+        ≡ pos 0 = adds_no_row s w x u k (s.t + s.x) p r (λ i. across R i 0 (matrix_row n C i)) each_c
+        (λ i b same. omega (arith, same, l)) in
+        let no_d : adds s w x u k r of_d
+        ≡ pos 0 = adds_no_row s w x u k (s.t + s.x) p r (λ i. across S i 0 (matrix_row m D i)) each_d
+        (λ i b same. omega (arith, same, l)) in
         meet k r h (omega (arith, l))
         ∙ four_parts k r
-        ∙ none_behind ((adds s w x u k r of_a +ℤ adds s w x u k r of_b) +ℤ adds s w x u k r of_c) (adds s w x u k r of_d) no_d
+        ∙ none_behind ((adds s w x u k r of_a +ℤ adds s w x u k r of_b) +ℤ adds s w x u k r of_c)
+        (adds s w x u k r of_d) no_d
         ∙ none_behind (adds s w x u k r of_a +ℤ adds s w x u k r of_b) (adds s w x u k r of_c) no_c
         ∙ ap₂ (λ a b. a +ℤ b)
         (adds_its_row s w x u k s.t n (λ i. across P i 0 (matrix_row n A i)) each_a i r l refl
@@ -265,11 +293,16 @@ module _ (s : Sizes) (abcd : List Fraction) (fits : SpaceFits s abcd) where
         (adds_its_row s w x u k s.t n (λ i. across Q i 0 (matrix_row m B i)) each_b i r l refl
         ∙ all_across s w x u k Q i 0 (matrix_row m B i) (λ c. refl))
 
-    output_form : (k o : ℕ) → k ≤ last → o < p → pos (q * g) *ℤ x k (s.t + s.x + o) ≡ sums x k (matrix_row n C o) (matrix_row m D o)
+    output_form : (k o : ℕ) → k ≤ last → o < p →
+        pos (q * g) *ℤ x k (s.t + s.x + o) ≡ sums x k (matrix_row n C o) (matrix_row m D o)
     output_form k o h l =
         let r : ℕ = s.t + s.x + o in
-        let no_a : adds s w x u k r of_a ≡ pos 0 = adds_no_row s w x u k s.t n r (λ i. across P i 0 (matrix_row n A i)) each_a (λ i b same. omega (arith, same, b)) in
-        let no_b : adds s w x u k r of_b ≡ pos 0 = adds_no_row s w x u k s.t n r (λ i. across Q i 0 (matrix_row m B i)) each_b (λ i b same. omega (arith, same, b)) in
+        let no_a : adds s w x u k r of_a
+        ≡ pos 0 = adds_no_row s w x u k s.t n r (λ i. across P i 0 (matrix_row n A i)) each_a
+        (λ i b same. omega (arith, same, b)) in
+        let no_b : adds s w x u k r of_b
+        ≡ pos 0 = adds_no_row s w x u k s.t n r (λ i. across Q i 0 (matrix_row m B i)) each_b
+        (λ i b same. omega (arith, same, b)) in
         meet k r h (omega (arith, l))
         ∙ four_parts k r
         ∙ ap (λ z. z +ℤ adds s w x u k r of_d)
@@ -286,12 +319,14 @@ module _ (s : Sizes) (abcd : List Fraction) (fits : SpaceFits s abcd) where
     -- ---- both
 
     -- what is equal one moment before gives equal sums
-    same_sums : (k : ℕ) (xs us : List Fraction) → length xs ≤ n → ((j : ℕ) → j < n → ago (λ k. x k j) k 1 ≡ ago (λ k. y k j) k 1) → sums x k xs us ≡ sums y k xs us
+    same_sums : (k : ℕ) (xs us : List Fraction) → length xs ≤ n →
+        ((j : ℕ) → j < n → ago (λ k. x k j) k 1 ≡ ago (λ k. y k j) k 1) → sums x k xs us ≡ sums y k xs us
     same_sums k xs us short same =
         ap (λ a. a +ℤ column_sum w (λ j. u k j) 0 us)
         (column_sum-same w (λ j. ago (λ k. x k j) k 1) (λ j. ago (λ k. y k j) k 1) n 0 xs (omega (arith, short)) same)
 
-    state_step : (k i : ℕ) → k ≤ last → i < n → ((j : ℕ) → j < n → ago (λ k. x k j) k 1 ≡ ago (λ k. y k j) k 1) → x k i ≡ y k i
+    state_step : (k i : ℕ) → k ≤ last → i < n → ((j : ℕ) → j < n → ago (λ k. x k j) k 1 ≡ ago (λ k. y k j) k 1) →
+        x k i ≡ y k i
     state_step k i h l before_same =
         let no_variable = fits.variables in
         let place : i ≡ s.t + i = omega (arith, no_variable) in
@@ -327,7 +362,9 @@ module _ (s : Sizes) (abcd : List Fraction) (fits : SpaceFits s abcd) where
   }
 
   pub outputs_agree : HasOutputs (space_form s abcd) (space_equations s abcd)
-  outputs_agree = has_outputs_of (space_form s abcd) (space_equations s abcd) (space_fits s abcd fits) equations_fit agrees
+  outputs_agree = has_outputs_of (space_form s abcd) (space_equations s abcd)
+      (space_fits s abcd fits) equations_fit agrees
 
-pub space_has_outputs : (s : Sizes) (abcd : List Fraction) → SpaceFits s abcd → HasOutputs (space_form s abcd) (space_equations s abcd)
+pub space_has_outputs : (s : Sizes) (abcd : List Fraction) → SpaceFits s abcd →
+    HasOutputs (space_form s abcd) (space_equations s abcd)
 space_has_outputs s abcd fits = outputs_agree s abcd fits

@@ -1,4 +1,5 @@
--- The matrices A, B, C and D of a state space with n states, m inputs and p outputs, which stand in one list, row after row.
+-- The matrices A, B, C and D of a state space with n states, m inputs and p outputs, which stand in one list, row after
+-- row.
 use Rattle.std.specs.Prelude.{◌≡◌, ◌+◌, ◌*◌, ◌≤◌, List, length, take, drop}
 use Rattle.fx_nums.specs.Fraction.{Fraction}
 use Rattle.fx_eqs.specs.declared.limits.TheConstants.{PORTS, STATES}

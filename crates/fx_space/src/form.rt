@@ -31,9 +31,9 @@ fn add_matrix(
     Ok(())
 }
 
-/// The state space x' = A x + B u, y = C x + D u as a form without intermediate variables: `sizes.t` is 0, with up to
-/// `STATES` states and 1 to `PORTS` inputs and outputs. `abcd` has the entries of A, B, C and D, each row after row. Its error
-/// is want of memory.
+/// The state space x' = A x + B u, y = C x + D u as a form without intermediate variables: `sizes.t` is 0,
+/// with up to `STATES` states and 1 to `PORTS` inputs and outputs. `abcd` has the entries of A, B, C and D,
+/// each row after row. Its error is want of memory.
 pub fn space(alloc: Global, sizes: Sizes, abcd: &[Frac]) -> Result<Sif, AllocError>
     requires { SpaceFits sizes abcd.now }
     ensures value { IfOk result (λ s. s ≡ space_form sizes abcd.now) }

@@ -4,5 +4,6 @@ use Rattle.fx_cascade.proofs.sections.add_df2t_sections.Goals as goal
 
 pub loop-i-preserved : goal.loop-i-preserved
 loop-i-preserved c =
-    follows c.args.entries.now.items c.loop-i.entries.items c.add_df2t_section.new.entries.items c.loop-i.i (df2t_section c.args.sections.now)
+    follows c.args.entries.now.items c.loop-i.entries.items c.add_df2t_section.new.entries.items c.loop-i.i
+    (df2t_section c.args.sections.now)
     c.loop-i.invariant c.in_ok-add_df2t_section.ensures

@@ -7,4 +7,8 @@ pub loop-i-preserved : goal.loop-i-preserved
 loop-i-preserved c =
     let held = delays c.args.block c.args.column c.args.at c.loop-i.i in
     let next = delay_row c.args.block c.args.column c.args.at c.loop-i.i in
-    rw (delays_next c.args.block c.args.column c.args.at c.loop-i.i, ← append_assoc c.args.entries.now.items held next, ← c.loop-i.invariant) c.in_ok-add_delay_row.ensures
+    rw (
+      delays_next c.args.block c.args.column c.args.at c.loop-i.i,
+      ← append_assoc c.args.entries.now.items held next,
+      ← c.loop-i.invariant,
+    ) c.in_ok-add_delay_row.ensures

@@ -4,4 +4,5 @@ use Rattle.fx_sif.specs.Rows.{put_entries}
 use Rattle.fx_sif.proofs.rows.put_entries.Given as goal
 
 abbrev pub invariant-loop-entry : goal.invariant-loop-entry
-invariant-loop-entry g l = put_entries l.sizes l.at (drop l.entry-index l.entries) (net_of l.net) ≡ put_entries l.sizes l.at l.entries (net_of l.initial.net)
+invariant-loop-entry g l = put_entries l.sizes l.at (drop l.entry-index l.entries) (net_of l.net)
+    ≡ put_entries l.sizes l.at l.entries (net_of l.initial.net)
