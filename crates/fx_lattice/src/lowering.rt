@@ -4,6 +4,7 @@ ghost use Rattle.std.specs.Prelude.{◌≡◌, ◌≤◌, ◌<◌, ◌+◌, ◌+
 ghost use Rattle.fx_math.specs.Answers.{Gives};
 ghost use Rattle.fx_lattice.specs.Exact.{EnclosesExact};
 ghost use Rattle.fx_lattice.specs.Lattice.{at};
+ghost use Rattle.fx_lattice.specs.Operations.{less_product, one_point};
 ghost use Rattle.fx_lattice.specs.StepDown.{behind, coefficient, down, enclosed, enclosures, greater_order, is_memory, lower_a, lower_b, lower_denominator, lower_numerator, step_down};
 
 use crate::operands::{Operand, Reflection, one};
@@ -69,6 +70,13 @@ fn lower_a(i: usize, a: &[Operand], d: Operand, j: usize) -> Option<Operand>
     numerator.over(d)
 }
 
+// The divisor of a step, `1 - k^2`.
+fn divisor(k: Operand) -> Option<Operand>
+    ensures { result ≡ less_product one_point k k }
+{
+    one().less_product(k, k)
+}
+
 // The denominator of the order below `i`. None where one of its coefficients is out of range.
 #[tactic(auto, unfolding(crate::specs::StepDown::lower_denominator))]
 fn lower_denominator(
@@ -79,8 +87,7 @@ fn lower_denominator(
     requires { 1 ≤ i }
     ensures { IfOk result (λ r. option_map (λ v. v.items) r ≡ lower_denominator i a.now) }
 {
-    let k = behind(a, i);
-    let Some(d) = one().less_product(k, k) else {
+    let Some(d) = divisor(behind(a, i)) else {
         return Ok(None);
     };
     let mut lower = Vec::new(alloc);
