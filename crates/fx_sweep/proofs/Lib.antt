@@ -18,3 +18,11 @@ pub mod OneRow
 pub mod AllTime
 pub mod Growth
 mod Examples
+pub mod Added
+pub mod Along
+pub mod Ranges
+pub mod Settling
+pub mod Started
+pub mod Turned
+pub mod Sweeping
+pub mod Tested

@@ -2,6 +2,8 @@ pub mod Target
 pub mod Weights
 pub mod Gains
 pub mod Range
+pub mod Swept
+pub mod Steps
 pub mod Totals
 pub mod Bounds
 pub mod Padding

@@ -2,8 +2,11 @@
 #![tactic(auto)]
 
 mod all_time;
+mod handing;
 mod laws;
 mod limits;
+mod numbers;
+mod sweep;
 mod target;
 
 pub use all_time::bounds_hold_for_all_time;
@@ -12,4 +15,5 @@ pub use laws::{
     targets_lie_between, totals_bound, totals_grow,
 };
 pub use limits::{GREATEST_LENGTH, GREATEST_SHIFT, sweep_limits_are_these};
+pub use sweep::Sweep;
 pub use target::{Place, RangeAt, Target};
