@@ -4,3 +4,5 @@ mod JointNet
 mod AllTime
 mod Pairs
 mod Bounded
+mod Examples
+mod Raising

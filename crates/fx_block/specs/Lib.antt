@@ -3,3 +3,4 @@ pub mod Joint
 pub mod Near
 pub mod Laws
 pub mod Least
+pub mod Raising
