@@ -1,0 +1,22 @@
+//! Filters in implicit form as integer rows: each coefficient becomes an odd number, shifted to the left, over 2 to the
+//! power of its row's right shift.
+#![tactic(auto)]
+
+mod design;
+mod fault;
+mod form;
+mod formats;
+mod laws;
+mod row;
+mod scaled;
+#[cfg(test)]
+mod tests;
+
+pub use design::Design;
+pub use fault::QuantFault;
+pub use form::{quantise, quantise_rows};
+pub use formats::{
+    Formats, GREATEST_FRACTION, GREATEST_LOW, LARGEST_GUARD, LEAST_FRACTION, LEAST_LOW, LOWS_APART,
+    ROUNDED_BITS, quantising_limits_are_these,
+};
+pub use laws::coefficients_are_rounded_to_nearest;
