@@ -26,3 +26,5 @@ pub mod Started
 pub mod Turned
 pub mod Sweeping
 pub mod Tested
+pub mod Kept
+pub mod Lines

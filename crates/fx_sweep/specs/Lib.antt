@@ -11,3 +11,5 @@ pub mod Ordered
 pub mod Growth
 pub mod Laws
 pub mod AllTime
+pub mod Kept
+pub mod Filled

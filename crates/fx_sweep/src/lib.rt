@@ -2,12 +2,15 @@
 #![tactic(auto)]
 
 mod all_time;
+mod filling;
 mod handing;
 mod laws;
 mod limits;
 mod numbers;
+mod sums;
 mod sweep;
 mod target;
+mod totals;
 
 pub use all_time::bounds_hold_for_all_time;
 pub use laws::{
@@ -16,4 +19,5 @@ pub use laws::{
 };
 pub use limits::{GREATEST_LENGTH, GREATEST_SHIFT, sweep_limits_are_these};
 pub use sweep::Sweep;
-pub use target::{Place, RangeAt, Target};
+pub use target::{Place, RangeAt, Target, TargetRange};
+pub use totals::{Totals, totals_fit};
