@@ -1,1 +1,3 @@
 mod Fed
+mod FirstMet
+mod Numerators

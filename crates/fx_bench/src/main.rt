@@ -5,6 +5,8 @@ mod checksum;
 mod decimal;
 mod machine;
 mod per_call;
+mod recipe;
+mod sweep;
 mod words;
 
 use std::alloc::Global;
@@ -33,8 +35,14 @@ fn main(rt: HostRuntime) -> io::Result<ExitCode> {
             machine::bench(&rt, rt.alloc(), moments)?;
             Ok(ExitCode::SUCCESS)
         }
+        Asked::Sweep(recipe) => {
+            sweep::bench(&rt, rt.alloc(), recipe)?;
+            Ok(ExitCode::SUCCESS)
+        }
         Asked::Unknown => {
-            eprintln!(rt; "usage: fx_bench [decimal ROUNDS | machine MOMENTS]")?;
+            eprintln!(rt;
+                "usage: fx_bench [decimal ROUNDS | machine MOMENTS | sweep ROWS NOW OLD PLACES MOMENTS]"
+            )?;
             Ok(ExitCode::from(2))
         }
     }
