@@ -4,5 +4,7 @@ mod JointNet
 mod AllTime
 mod Pairs
 mod Bounded
+mod Passing
+mod FirstFailure
 mod Examples
 mod Raising

@@ -4,3 +4,10 @@ pub mod Near
 pub mod Laws
 pub mod Least
 pub mod Raising
+pub mod Formats
+pub mod Admissible
+pub mod Sound
+pub mod Passes
+pub mod Failure
+pub mod Certified
+pub mod Candidate

@@ -2,10 +2,12 @@
 //! suffices.
 #![tactic(auto)]
 
+mod certified;
 mod inequality;
 mod laws;
 mod least;
 
+pub use certified::{inequalities_make_sound, none_fails_where_all_hold};
 pub use inequality::Inequality;
 pub use laws::{
     bounded_rows_are_exact, bounds_make_near, ideal_values_run, joint_nets_hold_both,
