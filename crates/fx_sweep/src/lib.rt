@@ -10,6 +10,8 @@ mod numbers;
 mod sums;
 mod sweep;
 mod target;
+#[cfg(test)]
+mod tests;
 mod totals;
 
 pub use all_time::bounds_hold_for_all_time;
