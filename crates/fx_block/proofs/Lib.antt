@@ -8,3 +8,4 @@ mod Passing
 mod FirstFailure
 mod Examples
 mod Raising
+mod Raised

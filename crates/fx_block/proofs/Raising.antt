@@ -43,7 +43,7 @@ ceil_within t d x some low high = by (ceil_div t d) (ceil_above t d some) (ceil_
 
 -- ---- the first row that passes a test
 
-first_passes : (n : ℕ) (test : ℕ → Bool) (j : ℕ) → first_row n test ≡ Some j → (j < n) × (test j ≡ true)
+pub first_passes : (n : ℕ) (test : ℕ → Bool) (j : ℕ) → first_row n test ≡ Some j → (j < n) × (test j ≡ true)
 first_passes zero test j e = cc
 first_passes (suc n) test j e = by (first_passes n test j) (first_row n test) refl (test n) refl
   where
@@ -59,7 +59,7 @@ first_passes (suc n) test j e = by (first_passes n test j) (first_row n test) re
     by again None f false g =
         let same : None ≡ Some j = sym (ap (λ x. option_or x (cond (test n) (Some n) None)) f ∙ ap (λ b. cond b (Some n) None) g) ∙ e in cc
 
-none_passes : (n : ℕ) (test : ℕ → Bool) → first_row n test ≡ None → (j : ℕ) → j < n → test j ≡ false
+pub none_passes : (n : ℕ) (test : ℕ → Bool) → first_row n test ≡ None → (j : ℕ) → j < n → test j ≡ false
 none_passes zero test e j l = absurd (omega arith)
 none_passes (suc n) test e j l = by (λ f below. none_passes n test f j below) (first_row n test) refl (test n) refl
   where

@@ -11,3 +11,4 @@ pub mod Passes
 pub mod Failure
 pub mod Certified
 pub mod Candidate
+pub mod Told

@@ -40,13 +40,12 @@ abbrev pub ended_by : ℕ → (ℕ → ℕ) → (ℕ → ℕ) → (ℕ → ℕ) 
 ended_by n caps rows next go_on = ended caps rows next (first_row n (λ j. nat_lt (caps j) (next j))) (first_row n (λ j. not (next j == rows j))) go_on
 
 -- one raise from these bounds and, as long as they change, so many more
+abbrev pub raises_by : ((ℕ → ℕ) → ℕ → ℕ) → ℕ → (ℕ → ℕ) → ℕ → (ℕ → ℕ) → Raises
+raises_by raise n caps zero rows = ended_by n caps rows (raise rows) (λ j. Slow j (rows j) (raise rows j))
+raises_by raise n caps (suc more) rows = ended_by n caps rows (raise rows) (λ j. raises_by raise n caps more (raise rows))
+
 abbrev pub raises : Net → ℕ → (ℕ → ℕ) → (ℕ → ℕ) → (ℕ → ℕ) → ℕ → (ℕ → ℕ) → Raises
-raises net n lengths bounds caps zero rows =
-    let next = raise net n lengths bounds rows in
-    ended_by n caps rows next (λ j. Slow j (rows j) (next j))
-raises net n lengths bounds caps (suc more) rows =
-    let next = raise net n lengths bounds rows in
-    ended_by n caps rows next (λ j. raises net n lengths bounds caps more next)
+raises net n lengths bounds caps more rows = raises_by (raise net n lengths bounds) n caps more rows
 
 -- raises from 0, as many as are tried
 abbrev pub least_by_raises : Net → ℕ → (ℕ → ℕ) → (ℕ → ℕ) → (ℕ → ℕ) → Raises

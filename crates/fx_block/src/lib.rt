@@ -13,4 +13,6 @@ pub use laws::{
     bounded_rows_are_exact, bounds_make_near, ideal_values_run, joint_nets_hold_both,
     joint_values_are_exact, totals_serve_for_all_time, words_are_ideal,
 };
-pub use least::{MOST_RAISES, most_raises_is_this, raises_find_the_least};
+pub use least::{
+    Least, LengthWhy, MOST_RAISES, holds, least_bounds, most_raises_is_this, raises_find_the_least,
+};
