@@ -19,8 +19,10 @@ moments_after n = rw (one_more n) refl
 pub moments_count : (n : ℕ) → length (moments n) ≡ n
 unfolding moments
 moments_count zero = refl
-moments_count (suc n) = let e = moments_count n in let l = length-append (moments n) ((drawn (seed_before (suc n)) ∷ []) ∷ []) in omega arith
+moments_count (suc n) = let e = moments_count n in let l =
+    length-append (moments n) ((drawn (seed_before (suc n)) ∷ []) ∷ []) in omega arith
 
-pub sum_after : (p : Code) (n : ℕ) → words_sum p (n + 1) ≡ mixed (words_sum p n) (low_bits (put_word p (moments (n + 1)) n))
+pub sum_after : (p : Code) (n : ℕ) → words_sum p (n + 1)
+    ≡ mixed (words_sum p n) (low_bits (put_word p (moments (n + 1)) n))
 unfolding words_sum
 sum_after p n = rw (one_more n) refl

@@ -1,5 +1,6 @@
 -- The numerators of a recipe are small.
-use Rattle.std.proofs.Common.{◌≡◌, ℕ, zero, ◌+◌, ◌-◌, ◌*◌, ◌/◌, ◌%◌, ◌^◌, ◌<◌, ◌≤◌, pos, sym, subst, lit<, arith, pow-add}
+use Rattle.std.proofs.Common.{◌≡◌, ℕ, zero, ◌+◌, ◌-◌, ◌*◌, ◌/◌, ◌%◌, ◌^◌, ◌<◌, ◌≤◌, pos, sym, subst, lit<}
+use Rattle.std.proofs.Common.{arith, pow-add}
 use Rattle.std.proofs.Math.Nat.{mod-lt, one-le-pow, div-le_self, mul-le-mul_right, pow-le-pow_right}
 use Rattle.fx_nums.specs.Fraction.{FractionFits}
 use Rattle.fx_nums.specs.declared.fraction.Den.TheVariants.{Ten}
@@ -12,7 +13,8 @@ power_small places high = let e : places - 6 ≤ 12 = omega arith in pow-le-pow_
 pub millionths_small : (n : ℕ) → 880000 + n % 200003 ≤ 1080002
 millionths_small n = let h : n % 200003 < 200003 = mod-lt n (lit< tt) in omega arith
 
-pub scaled_small : (n places : ℕ) → places ≤ 18 → (880000 + n % 200003) * 10 ^ (places - 6) ≤ 1080002 * 10 ^ (places - 6)
+pub scaled_small : (n places : ℕ) → places ≤ 18 →
+    (880000 + n % 200003) * 10 ^ (places - 6) ≤ 1080002 * 10 ^ (places - 6)
 scaled_small n places high = mul-le-mul_right (10 ^ (places - 6)) (millionths_small n)
 
 pub numerator_fits : (r : Recipe) (n : ℕ) → RecipeFits r → FractionFits (pos (numerator r n)) (Ten r.places)

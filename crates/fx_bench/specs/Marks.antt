@@ -1,5 +1,6 @@
 -- What calls leave in a checksum.
-use Rattle.std.specs.Prelude.{ℕ, zero, suc, ◌+◌, ◌/◌, ◌%◌, ◌^◌, ℤ, pos, ◌+ℤ◌, unsigned_abs, List, [], length, slice_index_or, Result, Ok, Err}
+use Rattle.std.specs.Prelude.{ℕ, zero, suc, ◌+◌, ◌/◌, ◌%◌, ◌^◌, ℤ, pos, ◌+ℤ◌, unsigned_abs, List, [], length}
+use Rattle.std.specs.Prelude.{slice_index_or, Result, Ok, Err}
 use Rattle.std.specs.List.{sum}
 use Rattle.fx_nums.specs.Fraction.{Fraction, tens}
 use Rattle.fx_decimal.specs.declared.fault.DecimalFault.{DecimalFault}

@@ -1,5 +1,6 @@
 -- What sweeps of a recipe's net leave.
-use Rattle.std.specs.Prelude.{◌≡◌, ℕ, ◌-◌, ◌/◌, ◌%◌, ◌^◌, ℤ, pos, List, codes, ◌++◌, nat_le, if◌then◌else◌, Option, Some, None, Result, Ok, Err}
+use Rattle.std.specs.Prelude.{◌≡◌, ℕ, ◌-◌, ◌/◌, ◌%◌, ◌^◌, ℤ, pos, List, codes, ◌++◌, nat_le, if◌then◌else◌}
+use Rattle.std.specs.Prelude.{Option, Some, None, Result, Ok, Err}
 use Rattle.std.specs.Fmt.{decimal}
 use Rattle.fx_net.specs.Net.{Net}
 use Rattle.fx_sweep.specs.Gains.{input_gain}
@@ -31,11 +32,16 @@ abbrev pub parts_text : ℕ → List ℕ
 parts_text n = decimal (n / 2 ^ 64) ++ (codes " " ++ decimal (n % 2 ^ 64))
 
 abbrev pub recipe_text : Recipe → List ℕ
-recipe_text r = decimal r.rows ++ (codes " " ++ (decimal r.now ++ (codes " " ++ (decimal r.old ++ (codes " " ++ (decimal r.places ++ (codes " " ++ decimal r.moments)))))))
+recipe_text r = decimal r.rows ++
+    (codes " " ++ (decimal r.now ++
+    (codes " " ++ (decimal r.old ++ (codes " " ++ (decimal r.places ++ (codes " " ++ decimal r.moments)))))))
 
 -- the line that is printed
 abbrev pub time_text : SweepTime → List ℕ
-time_text t = codes "sweep " ++ (recipe_text t.recipe ++ (codes " " ++ (tenths_text t.per_term.tenths ++ (codes " terms " ++ (decimal t.terms ++ (codes " gain " ++ parts_text t.gain))))))
+time_text t = codes "sweep " ++
+    (recipe_text t.recipe ++
+    (codes " " ++ (tenths_text t.per_term.tenths ++
+    (codes " terms " ++ (decimal t.terms ++ (codes " gain " ++ parts_text t.gain))))))
 
 -- the terms and the gain are those of the recipe
 pub record IsOfRecipe (r : Recipe) (size : ℕ) (t : SweepTime) : Type 0 where

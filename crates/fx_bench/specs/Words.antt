@@ -1,5 +1,6 @@
 -- What the words of the command line ask for.
-use Rattle.std.specs.Prelude.{ℕ, ◌+◌, ◌^◌, ◌<◌, ◌==◌, ◌&&◌, nat_lt, if◌then◌else◌, List, [], ◌∷◌, map, codes, String, Option, Some, None}
+use Rattle.std.specs.Prelude.{ℕ, ◌+◌, ◌^◌, ◌<◌, ◌==◌, ◌&&◌, nat_lt, if◌then◌else◌, List, [], ◌∷◌, map, codes}
+use Rattle.std.specs.Prelude.{String, Option, Some, None}
 use Rattle.std.specs.String.{string_bytes}
 use Rattle.std.specs.Str.{bytes_eq}
 use Rattle.fx_nums.specs.Whole.{whole_in}
@@ -56,7 +57,8 @@ recipe_of _ _ _ _ _ = None
 -- a recipe: rows, those that are read in the same moment and in the moment before, places and moments
 abbrev pub recipe_in : List (List ℕ) → Option Recipe
 recipe_in (rows ∷ now ∷ old ∷ places ∷ moments ∷ []) =
-    recipe_of (number_in rows 1 64) (number_in now 0 63) (number_in old 0 64) (number_in places 7 18) (number_in moments 1 4096)
+    recipe_of (number_in rows 1 64) (number_in now 0 63) (number_in old 0 64) (number_in places 7 18)
+    (number_in moments 1 4096)
 recipe_in _ = None
 
 abbrev pub sweep_of : Option Recipe → Asked

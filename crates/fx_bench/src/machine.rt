@@ -88,8 +88,10 @@ fn feed(machine: &mut Machine, sample: i16) -> (i64, Marks)
     requires input { machine.old.program.inputs ≡ 16 ∷ [] }
     requires output { length machine.old.program.outputs ≡ 1 }
     ensures program { machine.new.program ≡ machine.old.program }
-    ensures stands { (p : Code) (list : List (List ℤ)) → StandsAfter machine.old p list → StandsAfter machine.new p (list ++ (sample ∷ []) ∷ []) }
-    ensures word { (p : Code) (list : List (List ℤ)) → StandsAfter machine.old p list → result.0 ≡ put_word p (list ++ (sample ∷ []) ∷ []) (length list) }
+    ensures stands { (p : Code) (list : List (List ℤ)) → StandsAfter machine.old p list →
+        StandsAfter machine.new p (list ++ (sample ∷ []) ∷ []) }
+    ensures word { (p : Code) (list : List (List ℤ)) → StandsAfter machine.old p list →
+        result.0 ≡ put_word p (list ++ (sample ∷ []) ∷ []) (length list) }
 {
     let mut output = [0];
     let marks = machine.step(&[i64::from(sample)], &mut output);

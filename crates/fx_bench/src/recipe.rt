@@ -4,7 +4,18 @@ ghost use Rattle.std.specs.Prelude.{◌≡◌, ◌<◌, ◌≤◌, ◌^◌, pos}
 ghost use Rattle.fx_nums.specs.Fraction.{FractionFits};
 ghost use Rattle.fx_nums.specs.declared.fraction.Den.TheVariants.{Ten};
 ghost use Rattle.fx_net.specs.Tables.{net_of};
-ghost use Rattle.fx_bench.specs.Recipe.{RecipeFits, coefficient, earlier, numerator, row_terms, terms, with_now, with_old, with_row, with_rows};
+ghost use Rattle.fx_bench.specs.Recipe.{
+  RecipeFits,
+  coefficient,
+  earlier,
+  numerator,
+  row_terms,
+  terms,
+  with_now,
+  with_old,
+  with_row,
+  with_rows,
+};
 
 use fx_net::{LARGEST_NET, Net};
 use fx_nums::{Den, Frac};

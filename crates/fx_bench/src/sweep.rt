@@ -160,8 +160,8 @@ fn sweep_time<R: Clock>(
     sized_time::<R, 64>(rt, alloc, recipe)
 }
 
-/// Times sweeps of a recipe's net for its last row, and prints nanoseconds a term and moment, the count of terms, and the
-/// gain of input 0; or that a number reached its limit.
+/// Times sweeps of a recipe's net for its last row, and prints nanoseconds a term and moment, the count of terms, and
+/// the gain of input 0; or that a number reached its limit.
 pub fn bench<R: Print + Clock>(rt: &R, alloc: Global, recipe: Recipe) -> io::Result<()>
     requires { RecipeFits recipe }
 {

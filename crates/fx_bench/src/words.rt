@@ -2,7 +2,17 @@
 
 ghost use Rattle.std.specs.Prelude.{◌≡◌, ◌+◌, ◌<◌, ◌≤◌, IfSome};
 ghost use Rattle.fx_bench.specs.Recipe.{RecipeFits};
-ghost use Rattle.fx_bench.specs.Words.{HasRounds, asked_by, bench_named, number_in, possible, recipe_in, rounds_in, sweep_asked, texts};
+ghost use Rattle.fx_bench.specs.Words.{
+  HasRounds,
+  asked_by,
+  bench_named,
+  number_in,
+  possible,
+  recipe_in,
+  rounds_in,
+  sweep_asked,
+  texts,
+};
 
 use crate::recipe::Recipe;
 use fx_nums::whole_at;

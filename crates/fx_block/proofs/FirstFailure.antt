@@ -11,7 +11,9 @@ use Rattle.fx_code.specs.Code.{Code}
 use Rattle.fx_cert.specs.Certificate.{Certificate}
 use Rattle.fx_sweep.specs.declared.target.RangeAt.{RangeAt}
 use Rattle.fx_block.specs.Certified.{NoneFails}
-use Rattle.fx_block.specs.Failure.{Failure, unless, unequal, above, out_of_range, first_of, form_failure, range_failure, bound_failure, word_failure, sum_failure, error_failure, wanted_failure, first_failure}
+use Rattle.fx_block.specs.Failure.{Failure, unless, unequal, above, out_of_range, first_of, form_failure}
+use Rattle.fx_block.specs.Failure.{range_failure, bound_failure, word_failure, sum_failure, error_failure}
+use Rattle.fx_block.specs.Failure.{wanted_failure, first_failure}
 use Rattle.fx_block.specs.Passes.{IsOfForm, Passes, pair_range, row_count, row_range}
 use Rattle.fx_block.specs.declared.inequality.Inequality.{Inequality}
 
@@ -32,7 +34,8 @@ equal_met : (which : Inequality) (a b : ℕ) → a ≡ b → unequal which a b �
 equal_met which a b e = unless_met (eqb a b) which _ _ (eq-eqb a b e)
 
 below_from : (which : Inequality) (a b : ℤ) → above which a b ≡ None → a ≤ℤ b
-below_from which a b e = let test : int_le a b ≡ true = unless_none (int_le a b) which a b e in omega (arith, ints, test)
+below_from which a b e = let test : int_le a b ≡ true =
+    unless_none (int_le a b) which a b e in omega (arith, ints, test)
 
 below_met : (which : Inequality) (a b : ℤ) → a ≤ℤ b → above which a b ≡ None
 below_met which a b h = by (int_le a b) refl
@@ -107,17 +110,26 @@ module _ (filter : Filter) (p : Code) (c : Certificate) where
   passes_from e =
       let a = or_from (form_failure filter p c) _ e in
       let b = or_from (range_failure filter p c) _ a.1 in
-      let ranges = or_from (first_of (row_count filter p) (λ j. out_of_range j (row_range filter p c j))) (first_of (length filter.outputs) (λ o. out_of_range (row_count filter p + o) (pair_range filter p c o))) b.0 in
+      let ranges = or_from (first_of (row_count filter p) (λ j. out_of_range j (row_range filter p c j)))
+      (first_of (length filter.outputs) (λ o.
+      out_of_range (row_count filter p + o) (pair_range filter p c o))) b.0 in
       let d = or_from (bound_failure filter p c) _ b.1 in
       let f = or_from (word_failure p c) _ d.1 in
       let g = or_from (sum_failure p c) _ f.1 in
       let h = or_from (error_failure filter p c) (wanted_failure filter c) g.1 in
       record {
         form = form_from a.0;
-        row_ranges = λ j l. range_from j (row_range filter p c j) (first_from (row_count filter p) (λ j. out_of_range j (row_range filter p c j)) ranges.0 j l);
-        pair_ranges = λ o l. range_from (row_count filter p + o) (pair_range filter p c o) (first_from (length filter.outputs) (λ o. out_of_range (row_count filter p + o) (pair_range filter p c o)) ranges.1 o l);
+        row_ranges = λ j l. range_from j (row_range filter p c j)
+            (first_from (row_count filter p) (λ j. out_of_range j (row_range filter p c j)) ranges.0 j l);
+        pair_ranges = λ o l. range_from (row_count filter p + o) (pair_range filter p c o)
+            (first_from (length filter.outputs) (λ o.
+            out_of_range (row_count filter p + o) (pair_range filter p c o)) ranges.1 o l);
         bounds = λ j l. below_from _ _ _ (first_from _ _ d.0 j l);
-        widths = λ i l. record { word = below_from _ _ _ (first_from _ _ f.0 i l); sum = below_from _ _ _ (first_from _ _ g.0 i l) };
+        widths = λ i l. record {
+          word = below_from _ _ _ (first_from _ _ f.0 i l);
+          sum =
+              below_from _ _ _ (first_from _ _ g.0 i l);
+        };
         errors = λ o l. below_from _ _ _ (first_from _ _ h.0 o l);
         wanted = λ o l. below_from _ _ _ (first_from _ _ h.1 o l);
       }
@@ -126,12 +138,14 @@ module _ (filter : Filter) (p : Code) (c : Certificate) where
   passes_met passes =
       or_met (form_failure filter p c) _ (form_met passes.form) (
       or_met (range_failure filter p c) _
-      (or_met _ _ (first_met _ _ (λ j l. range_met _ _ (passes.row_ranges j l))) (first_met _ _ (λ o l. range_met _ _ (passes.pair_ranges o l)))) (
+      (or_met _ _ (first_met _ _ (λ j l. range_met _ _ (passes.row_ranges j l)))
+      (first_met _ _ (λ o l. range_met _ _ (passes.pair_ranges o l)))) (
       or_met (bound_failure filter p c) _ (first_met _ _ (λ j l. below_met _ _ _ (passes.bounds j l))) (
       or_met (word_failure p c) _ (first_met _ _ (λ i l. below_met _ _ _ (passes.widths i l).word)) (
       or_met (sum_failure p c) _ (first_met _ _ (λ i l. below_met _ _ _ (passes.widths i l).sum)) (
       or_met (error_failure filter p c) (wanted_failure filter c)
-      (first_met _ _ (λ o l. below_met _ _ _ (passes.errors o l))) (first_met _ _ (λ o l. below_met _ _ _ (passes.wanted o l))))))))
+      (first_met _ _ (λ o l. below_met _ _ _ (passes.errors o l)))
+      (first_met _ _ (λ o l. below_met _ _ _ (passes.wanted o l))))))))
 
 pub none_fails : NoneFails
 none_fails filter p c = (passes_from filter p c, passes_met filter p c)

@@ -30,7 +30,8 @@ joint_nets_hold_both code_stands rows_stand others still n p eqs fits = record {
         (let at_row : (0 + i) + 1 ≤ length p.rows = omega (arith, l, bare_count p) in
         sym (others (expanded eqs) (length p.rows) (0 + i) first (inl at_row)).class ∙ code.classes i l);
   };
-  equations = rows_stand (expanded eqs) (length p.rows) first (let e : first.rows ≡ n = rows_kept n p in omega (arith, fits, e));
+  equations = rows_stand (expanded eqs) (length p.rows) first (let e : first.rows ≡ n =
+      rows_kept n p in omega (arith, fits, e));
 }
   where
     first : Net
@@ -47,4 +48,5 @@ joint_values_are_exact p hold runs exact eqs q g u whole fits den divides =
     let both : HoldsBoth (net_of p eqs) p eqs = hold (count_of p eqs) p eqs (omega arith) in
     let run = runs (net_of p eqs) q u whole both.code den in
     exact eqs (net_of p eqs) (length p.rows) q g u (joint_values (net_of p eqs) p q u) fits both.equations den divides
-    (λ k r l. (let inside = both.equations.inside in run.others k (length p.rows + r) (omega arith) (omega (arith, inside, l))))
+    (λ k r l. (let inside = both.equations.inside in
+    run.others k (length p.rows + r) (omega arith) (omega (arith, inside, l))))

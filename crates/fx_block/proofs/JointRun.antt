@@ -1,5 +1,6 @@
 -- The values of a net that begins with a program are a run.
-use Rattle.std.proofs.Common.{◌≡◌, ◌⊎◌, ℕ, ◌+◌, ◌*◌, ◌-◌, ◌^◌, ◌<◌, ◌≤◌, length, arith, ap, ◌∙◌, subst, inl, inr, cond, ltb}
+use Rattle.std.proofs.Common.{◌≡◌, ◌⊎◌, ℕ, ◌+◌, ◌*◌, ◌-◌, ◌^◌, ◌<◌, ◌≤◌, length, arith, ap, ◌∙◌, subst, inl}
+use Rattle.std.proofs.Common.{inr, cond, ltb}
 use Rattle.std.proofs.Math.IntN.{ℤ, pos, ◌+ℤ◌, ◌-ℤ◌, ◌*ℤ◌}
 use Rattle.std.specs.Prelude.{unsigned_abs}
 use Rattle.std.proofs.lemmas.Int.{ints}
@@ -21,9 +22,11 @@ use Rattle.fx_block.specs.Joint.{joint_step, joint_values}
 use Rattle.fx_block.specs.Laws.{IdealIsFloored, JointValuesRun}
 
 -- what a row reads depends on the rows before it alone
-same_reads : (net : Net) (q : ℕ) (u : ℕ → ℕ → ℤ) (k i : ℕ) (x y old : ℕ → ℤ) → ((j : ℕ) → j < i → x j ≡ y j) → row_reads net q u k i x old ≡ row_reads net q u k i y old
+same_reads : (net : Net) (q : ℕ) (u : ℕ → ℕ → ℤ) (k i : ℕ) (x y old : ℕ → ℤ) → ((j : ℕ) → j < i → x j ≡ y j) →
+    row_reads net q u k i x old ≡ row_reads net q u k i y old
 same_reads net q u k i x y old h =
-    ap (λ s. s +ℤ total net.rows (λ j. over q (net.old i j) *ℤ old j *ℤ pos (q ^ (net.rows + i - j - 1))) +ℤ total PORTS (λ j. over q (net.input i j) *ℤ u k j *ℤ pos (q ^ row_time net k i)))
+    ap (λ s. s +ℤ total net.rows (λ j. over q (net.old i j) *ℤ old j *ℤ pos (q ^ (net.rows + i - j - 1))) +ℤ
+    total PORTS (λ j. over q (net.input i j) *ℤ u k j *ℤ pos (q ^ row_time net k i)))
     (total_ext i _ _ (λ j l. ap (λ v. over q (net.now i j) *ℤ v *ℤ pos (q ^ (i - j - 1))) (h j l)))
 
 plain : (z s : ℤ) → z ≡ s +ℤ (z -ℤ s)
@@ -39,16 +42,21 @@ room net p holds =
     omega (arith, inside, count)
 
 module _ (p : Code) (net : Net) (q : ℕ) (u : ℕ → ℕ → ℤ) where
-  value_is : (k i : ℕ) → i < net.rows → joint_values net p q u k i ≡ joint_step net p q u k i (joint_values net p q u k) (before (joint_values net p q u) k)
+  value_is : (k i : ℕ) → i < net.rows → joint_values net p q u k i
+      ≡ joint_step net p q u k i (joint_values net p q u k) (before (joint_values net p q u) k)
   value_is k i l =
       unrolled_step net.rows (joint_step net p q u)
-      (λ k i now later old h same. ap (λ r. cond (ltb i (length p.rows)) (ideal p u k i *ℤ pos (q ^ (row_time net k i + 1))) r) (same_reads net q u k i now later old same))
+      (λ k i now later old h same.
+      ap (λ r. cond (ltb i (length p.rows)) (ideal p u k i *ℤ pos (q ^ (row_time net k i + 1))) r)
+      (same_reads net q u k i now later old same))
       k i l
 
-  code : length p.rows ≤ net.rows → (k i : ℕ) → i < length p.rows → joint_values net p q u k i ≡ ideal p u k i *ℤ pos (q ^ (row_time net k i + 1))
+  code : length p.rows ≤ net.rows → (k i : ℕ) → i < length p.rows →
+      joint_values net p q u k i ≡ ideal p u k i *ℤ pos (q ^ (row_time net k i + 1))
   code r k i l = value_is k i (omega (arith, r, l)) ∙ cond-true _ _ _ (lt-ltb i (length p.rows) l)
 
-  others : (k i : ℕ) → length p.rows ≤ i → i < net.rows → joint_values net p q u k i ≡ row_sum net q u (joint_values net p q u) k i
+  others : (k i : ℕ) → length p.rows ≤ i → i < net.rows →
+      joint_values net p q u k i ≡ row_sum net q u (joint_values net p q u) k i
   unfolding row_sum
   others k i h l = value_is k i l ∙ cond-false _ _ _ (le-ltb i (length p.rows) h)
 
@@ -74,9 +82,15 @@ joint_values_run p floored_run floored net q u whole holds den = record {
     fits = room net p holds
 
     small : (k i : ℕ) → i < net.rows → (i < length p.rows) ⊎ (length p.rows ≤ i) →
-        2 * unsigned_abs (joint_values net p q u k i -ℤ row_sum net q u (joint_values net p q u) k i) ≤ net.class i * q ^ (row_time net k i + 1)
+        2 * unsigned_abs (joint_values net p q u k i -ℤ row_sum net q u (joint_values net p q u) k i) ≤
+        net.class i * q ^ (row_time net k i + 1)
     small k i l (inl below) =
         let e : 0 + i ≡ i = omega arith in
-        subst (λ j. 2 * unsigned_abs (joint_values net p q u k j -ℤ row_sum net q u (joint_values net p q u) k j) ≤ net.class j * q ^ (row_time net k j + 1)) e
-        (floored_run net 0 q u (ideal p u) (joint_values net p q u) whole holds den (numbers p net q u (room net p holds)) k i below (floored u k i below))
-    small k i l (inr behind) = nothing (joint_values net p q u k i) (row_sum net q u (joint_values net p q u) k i) (net.class i * q ^ (row_time net k i + 1)) (others p net q u k i behind l)
+        subst (λ j. 2 * unsigned_abs
+        (joint_values net p q u k j -ℤ row_sum net q u (joint_values net p q u) k j) ≤ net.class j * q ^
+        (row_time net k j + 1)) e
+        (floored_run net 0 q u (ideal p u) (joint_values net p q u) whole holds den
+        (numbers p net q u (room net p holds)) k i below (floored u k i below))
+    small k i l (inr behind) =
+        nothing (joint_values net p q u k i) (row_sum net q u (joint_values net p q u) k i)
+        (net.class i * q ^ (row_time net k i + 1)) (others p net q u k i behind l)

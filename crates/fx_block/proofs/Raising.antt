@@ -1,5 +1,6 @@
 -- Raises from 0 stay below all bounds that serve.
-use Rattle.std.proofs.Common.{◌≡◌, ◌⊎◌, ℕ, zero, suc, ◌+◌, ◌*◌, ◌^◌, ◌<◌, ◌≤◌, arith, refl, ap, sym, ◌∙◌, subst, inl, inr, cond, Bool, true, false, not, eqb, ltb}
+use Rattle.std.proofs.Common.{◌≡◌, ◌⊎◌, ℕ, zero, suc, ◌+◌, ◌*◌, ◌^◌, ◌<◌, ◌≤◌, arith, refl, ap, sym, ◌∙◌, subst}
+use Rattle.std.proofs.Common.{inl, inr, cond, Bool, true, false, not, eqb, ltb}
 use Rattle.std.proofs.Math.IntN.{ℤ, pos, negsuc, ◌+ℤ◌, ◌*ℤ◌}
 use Rattle.std.specs.Int.Signed.{◌≤ℤ◌, ◌<ℤ◌}
 use Rattle.std.specs.Prelude.{unsigned_abs, Option, Some, None}
@@ -16,7 +17,8 @@ use Rattle.fx_sweep.specs.Target.{start_of}
 use Rattle.fx_sweep.specs.Totals.{target_total}
 use Rattle.fx_sweep.specs.declared.target.Target.TheVariants.{Row}
 use Rattle.fx_block.specs.Least.{AllServe, AreLeastBounds}
-use Rattle.fx_block.specs.Raising.{raised_bound, raise, first_row, Raises, ended, ended_by, raises, RestIsLeast, OverHasNone}
+use Rattle.fx_block.specs.Raising.{raised_bound, raise, first_row, Raises, ended, ended_by, raises, RestIsLeast}
+use Rattle.fx_block.specs.Raising.{OverHasNone}
 use Rattle.fx_block.specs.Raising.Raises.{Rest, Over, Slow}
 
 -- ---- rounding up a number that is not negative
@@ -36,7 +38,8 @@ ceil_within t d x some low high = by (ceil_div t d) (ceil_above t d some) (ceil_
         let product : n * d < (x + 1) * d = omega (arith, ints, k, high) in
         let below : n < x + 1 = cancel_lt n (x + 1) d product in
         omega (arith, below)
-    by (negsuc n) h k = absurd (let wide : suc n * d < 1 = omega (arith, ints, h, low) in omega (arith, wide, some, product_some n d some))
+    by (negsuc n) h k = absurd (let wide : suc n * d < 1 =
+        omega (arith, ints, h, low) in omega (arith, wide, some, product_some n d some))
       where
         product_some : (n d : ℕ) → 0 < d → d ≤ suc n * d
         product_some n d l = omega arith
@@ -47,26 +50,34 @@ pub first_passes : (n : ℕ) (test : ℕ → Bool) (j : ℕ) → first_row n tes
 first_passes zero test j e = cc
 first_passes (suc n) test j e = by (first_passes n test j) (first_row n test) refl (test n) refl
   where
-    by : (first_row n test ≡ Some j → (j < n) × (test j ≡ true)) → (o : Option ℕ) → first_row n test ≡ o → (b : Bool) → test n ≡ b → (j < suc n) × (test j ≡ true)
+    by : (first_row n test ≡ Some j → (j < n) × (test j ≡ true)) → (o : Option ℕ) → first_row n test ≡ o →
+        (b : Bool) → test n ≡ b → (j < suc n) × (test j ≡ true)
     by again (Some i) f b g =
         let same : Some i ≡ Some j = sym (ap (λ x. option_or x (cond (test n) (Some n) None)) f) ∙ e in
         let at = again (f ∙ same) in
         (omega (arith, at.0), at.1)
     by again None f true g =
-        let same : Some n ≡ Some j = sym (ap (λ x. option_or x (cond (test n) (Some n) None)) f ∙ ap (λ b. cond b (Some n) None) g) ∙ e in
+        let same : Some n ≡ Some j =
+        sym (ap (λ x. option_or x (cond (test n) (Some n) None)) f ∙ ap (λ b. cond b (Some n) None) g) ∙ e in
         let at : n ≡ j = cc in
         (omega (arith, at), subst (λ i. test i ≡ true) at g)
     by again None f false g =
-        let same : None ≡ Some j = sym (ap (λ x. option_or x (cond (test n) (Some n) None)) f ∙ ap (λ b. cond b (Some n) None) g) ∙ e in cc
+        let same : None ≡ Some j =
+        sym (ap (λ x. option_or x (cond (test n) (Some n) None)) f ∙ ap (λ b. cond b (Some n) None) g) ∙ e in
+        cc
 
 pub none_passes : (n : ℕ) (test : ℕ → Bool) → first_row n test ≡ None → (j : ℕ) → j < n → test j ≡ false
 none_passes zero test e j l = absurd (omega arith)
 none_passes (suc n) test e j l = by (λ f below. none_passes n test f j below) (first_row n test) refl (test n) refl
   where
-    by : (first_row n test ≡ None → j < n → test j ≡ false) → (o : Option ℕ) → first_row n test ≡ o → (b : Bool) → test n ≡ b → test j ≡ false
-    by again (Some i) f b g = let same : Some i ≡ None = sym (ap (λ x. option_or x (cond (test n) (Some n) None)) f) ∙ e in cc
+    by : (first_row n test ≡ None → j < n → test j ≡ false) → (o : Option ℕ) → first_row n test ≡ o →
+        (b : Bool) → test n ≡ b → test j ≡ false
+    by again (Some i) f b g = let same : Some i ≡ None =
+        sym (ap (λ x. option_or x (cond (test n) (Some n) None)) f) ∙ e in cc
     by again None f true g =
-        let same : Some n ≡ None = sym (ap (λ x. option_or x (cond (test n) (Some n) None)) f ∙ ap (λ b. cond b (Some n) None) g) ∙ e in cc
+        let same : Some n ≡ None =
+        sym (ap (λ x. option_or x (cond (test n) (Some n) None)) f ∙ ap (λ b. cond b (Some n) None) g) ∙ e in
+        cc
     by again None f false g = elim (cases_lt j n) [
       | inl below ↦ again f below
       | inr at ↦ subst (λ i. test i ≡ false) (let same : n ≡ j = omega arith in same) g
@@ -95,24 +106,34 @@ unchanged a b e = by (eqb a b) refl e
     by true f g = eqb-true a b f
     by false f g = cc
 
-rests : (n : ℕ) (caps rows next x : ℕ → ℕ) (go_on : ℕ → Raises) → ended_by n caps rows next go_on ≡ Rest x → RestsSo n rows next go_on x
+rests : (n : ℕ) (caps rows next x : ℕ → ℕ) (go_on : ℕ → Raises) → ended_by n caps rows next go_on ≡ Rest x →
+    RestsSo n rows next go_on x
 unfolding RestsSo rest_of
-rests n caps rows next x go_on e = by (first_row n (λ j. ltb (caps j) (next j))) (first_row n (λ j. not (eqb (next j) (rows j)))) refl e
+rests n caps rows next x go_on e =
+    by (first_row n (λ j. ltb (caps j) (next j))) (first_row n (λ j. not (eqb (next j) (rows j)))) refl e
   where
-    by : (over changed : Option ℕ) → first_row n (λ j. not (eqb (next j) (rows j))) ≡ changed → ended caps rows next over changed go_on ≡ Rest x → RestsSo n rows next go_on x
+    by : (over changed : Option ℕ) → first_row n (λ j. not (eqb (next j) (rows j))) ≡ changed →
+        ended caps rows next over changed go_on ≡ Rest x → RestsSo n rows next go_on x
     by (Some j) changed f g = cc
-    by None None f g = inl (ap rest_of g, (λ j l. unchanged (next j) (rows j) (none_passes n (λ j. not (eqb (next j) (rows j))) f j l)))
+    by None None f g = inl (
+      ap rest_of g,
+      (λ j l. unchanged (next j) (rows j) (none_passes n (λ j. not (eqb (next j) (rows j))) f j l)),
+    )
     by None (Some j) f g = inr (j, g)
 
 -- raises of which one passed its cap did so at once, or went on
 PassesSo : ℕ → (ℕ → ℕ) → (ℕ → ℕ) → (ℕ → Raises) → ℕ → ℕ → ℕ → Type 0
-PassesSo n caps next go_on row value cap = ((row < n) × (caps row < next row)) ⊎ ((j : ℕ) × (go_on j ≡ Over row value cap))
+PassesSo n caps next go_on row value cap =
+    ((row < n) × (caps row < next row)) ⊎ ((j : ℕ) × (go_on j ≡ Over row value cap))
 
-passes : (n : ℕ) (caps rows next : ℕ → ℕ) (go_on : ℕ → Raises) (row value cap : ℕ) → ended_by n caps rows next go_on ≡ Over row value cap → PassesSo n caps next go_on row value cap
+passes : (n : ℕ) (caps rows next : ℕ → ℕ) (go_on : ℕ → Raises) (row value cap : ℕ) →
+    ended_by n caps rows next go_on ≡ Over row value cap → PassesSo n caps next go_on row value cap
 unfolding PassesSo row_of
-passes n caps rows next go_on row value cap e = by (first_row n (λ j. ltb (caps j) (next j))) (first_row n (λ j. not (eqb (next j) (rows j)))) refl e
+passes n caps rows next go_on row value cap e =
+    by (first_row n (λ j. ltb (caps j) (next j))) (first_row n (λ j. not (eqb (next j) (rows j)))) refl e
   where
-    by : (over changed : Option ℕ) → first_row n (λ j. ltb (caps j) (next j)) ≡ over → ended caps rows next over changed go_on ≡ Over row value cap → PassesSo n caps next go_on row value cap
+    by : (over changed : Option ℕ) → first_row n (λ j. ltb (caps j) (next j)) ≡ over →
+        ended caps rows next over changed go_on ≡ Over row value cap → PassesSo n caps next go_on row value cap
     by (Some j) changed f g =
         let at = first_passes n (λ j. ltb (caps j) (next j)) j f in
         let same : j ≡ row = ap row_of g in
@@ -149,37 +170,60 @@ module _ (grow : TotalsGrow) (none : NoTotalIsNegative) (net : Net) (n : ℕ) (l
     where
       within : (j : ℕ) → j < n → raised_bound net lengths bounds rows j ≤ others j
       within j l =
-          let less : target_total net (start_of (Row j)) (lengths j) bounds rows ≤ℤ target_total net (start_of (Row j)) (lengths j) bounds others =
-          grow net (start_of (Row j)) (lengths j) bounds bounds rows others (λ i. omega (arith, ints)) (λ i p. omega arith) (λ i p. below others serve i) in
-          let fits : target_total net (start_of (Row j)) (lengths j) bounds others ≤ℤ pos (others j * 2 ^ SCALE_BITS) = (serve j l).total in
-          let high : target_total net (start_of (Row j)) (lengths j) bounds rows ≤ℤ pos (others j * 2 ^ SCALE_BITS) = omega (arith, ints, less, fits) in
-          ceil_within (target_total net (start_of (Row j)) (lengths j) bounds rows) (2 ^ SCALE_BITS) (others j) (pow_pos SCALE_BITS) (not_negative rows j) high
+          let less : target_total net (start_of (Row j)) (lengths j) bounds rows ≤ℤ target_total net
+          (start_of (Row j)) (lengths j) bounds others =
+          grow net (start_of (Row j)) (lengths j) bounds bounds rows others (λ i. omega (arith, ints)) (λ i p.
+          omega arith) (λ i p. below others serve i) in
+          let fits : target_total net (start_of (Row j)) (lengths j) bounds others ≤ℤ pos
+          (others j * 2 ^ SCALE_BITS) = (serve j l).total in
+          let high : target_total net (start_of (Row j)) (lengths j) bounds rows ≤ℤ pos
+          (others j * 2 ^ SCALE_BITS) = omega (arith, ints, less, fits) in
+          ceil_within (target_total net (start_of (Row j)) (lengths j) bounds rows) (2 ^ SCALE_BITS) (others j)
+          (pow_pos SCALE_BITS) (not_negative rows j) high
 
   -- bounds that the next raise leaves serve
-  serves : ((j : ℕ) → j < n → 0 < lengths j) → (rows : ℕ → ℕ) → ((j : ℕ) → j < n → raise net n lengths bounds rows j ≡ rows j) → AllServe net n lengths bounds rows
+  serves : ((j : ℕ) → j < n → 0 < lengths j) → (rows : ℕ → ℕ) →
+      ((j : ℕ) → j < n → raise net n lengths bounds rows j ≡ rows j) → AllServe net n lengths bounds rows
   serves some rows same j l =
       let e : raised_bound net lengths bounds rows j ≡ rows j = sym (raise_at rows j l) ∙ same j l in
-      let covers : target_total net (start_of (Row j)) (lengths j) bounds rows ≤ℤ pos (raised_bound net lengths bounds rows j * 2 ^ SCALE_BITS) =
-      ceil_covers (target_total net (start_of (Row j)) (lengths j) bounds rows) (2 ^ SCALE_BITS) (pow_pos SCALE_BITS) (not_negative rows j) in
-      record { some = some j l; total = subst (λ x. target_total net (start_of (Row j)) (lengths j) bounds rows ≤ℤ pos (x * 2 ^ SCALE_BITS)) e covers }
+      let covers : target_total net (start_of (Row j)) (lengths j) bounds rows ≤ℤ pos
+      (raised_bound net lengths bounds rows j * 2 ^ SCALE_BITS) =
+      ceil_covers (target_total net (start_of (Row j)) (lengths j) bounds rows) (2 ^ SCALE_BITS)
+      (pow_pos SCALE_BITS) (not_negative rows j) in
+      record {
+        some = some j l;
+        total =
+            subst (λ x. target_total net (start_of (Row j)) (lengths j) bounds rows ≤ℤ pos (x * 2 ^ SCALE_BITS)) e
+            covers;
+      }
 
-  settled : ((j : ℕ) → j < n → 0 < lengths j) → (rows x : ℕ → ℕ) → IsBelowAll rows → rows ≡ x → ((j : ℕ) → j < n → raise net n lengths bounds rows j ≡ rows j) → AreLeastBounds net n lengths bounds x
+  settled : ((j : ℕ) → j < n → 0 < lengths j) → (rows x : ℕ → ℕ) → IsBelowAll rows → rows ≡ x →
+      ((j : ℕ) → j < n → raise net n lengths bounds rows j ≡ rows j) → AreLeastBounds net n lengths bounds x
   unfolding IsBelowAll
-  settled some rows x below same left = subst (λ y. AreLeastBounds net n lengths bounds y) same (record { serve = serves some rows left; least = λ others serve j l. below others serve j })
+  settled some rows x below same left =
+      subst (λ y. AreLeastBounds net n lengths bounds y) same
+      (record { serve = serves some rows left; least = λ others serve j l. below others serve j })
 
-  rest_least : ((j : ℕ) → j < n → 0 < lengths j) → (more : ℕ) (rows x : ℕ → ℕ) → IsBelowAll rows → raises net n lengths bounds caps more rows ≡ Rest x → AreLeastBounds net n lengths bounds x
+  rest_least : ((j : ℕ) → j < n → 0 < lengths j) → (more : ℕ) (rows x : ℕ → ℕ) → IsBelowAll rows →
+      raises net n lengths bounds caps more rows ≡ Rest x → AreLeastBounds net n lengths bounds x
   unfolding RestsSo
-  rest_least some zero rows x below e = elim (rests n caps rows (raise net n lengths bounds rows) x (λ j. Slow j (rows j) (raise net n lengths bounds rows j)) e) [
-    | inl at ↦ settled some rows x below at.0 at.1
-    | inr on ↦ (let never : Slow on.0 (rows on.0) (raise net n lengths bounds rows on.0) ≡ Rest x = on.1 in cc)
-  ]
-  rest_least some (suc more) rows x below e = elim (rests n caps rows (raise net n lengths bounds rows) x (λ j. raises net n lengths bounds caps more (raise net n lengths bounds rows)) e) [
-    | inl at ↦ settled some rows x below at.0 at.1
-    | inr on ↦ rest_least some more (raise net n lengths bounds rows) x (stays_below rows below) on.1
-  ]
+  rest_least some zero rows x below e =
+      elim (rests n caps rows (raise net n lengths bounds rows) x (λ j.
+      Slow j (rows j) (raise net n lengths bounds rows j)) e) [
+        | inl at ↦ settled some rows x below at.0 at.1
+        | inr on ↦ (let never : Slow on.0 (rows on.0) (raise net n lengths bounds rows on.0) ≡ Rest x = on.1 in cc)
+      ]
+  rest_least some (suc more) rows x below e =
+      elim (rests n caps rows (raise net n lengths bounds rows) x (λ j.
+      raises net n lengths bounds caps more (raise net n lengths bounds rows)) e) [
+        | inl at ↦ settled some rows x below at.0 at.1
+        | inr on ↦ rest_least some more (raise net n lengths bounds rows) x (stays_below rows below) on.1
+      ]
 
   -- a raised bound that passes its cap is at most that of any bounds that serve
-  none_fits : (others : ℕ → ℕ) (rows : ℕ → ℕ) (row : ℕ) → IsBelowAll rows → AllServe net n lengths bounds others → ((j : ℕ) → j < n → others j ≤ caps j) → row < n → caps row < raise net n lengths bounds rows row → ⊥
+  none_fits : (others : ℕ → ℕ) (rows : ℕ → ℕ) (row : ℕ) → IsBelowAll rows →
+      AllServe net n lengths bounds others → ((j : ℕ) → j < n → others j ≤ caps j) → row < n →
+      caps row < raise net n lengths bounds rows row → ⊥
   unfolding IsBelowAll
   none_fits others rows row below serve within l higher =
       let low : raise net n lengths bounds rows row ≤ others row = stays_below rows below others serve row in
@@ -187,16 +231,23 @@ module _ (grow : TotalsGrow) (none : NoTotalIsNegative) (net : Net) (n : ℕ) (l
       absurd (omega (arith, low, high, higher))
 
   over_none : (others : ℕ → ℕ) → AllServe net n lengths bounds others → ((j : ℕ) → j < n → others j ≤ caps j) →
-      (more : ℕ) (rows : ℕ → ℕ) (row value cap : ℕ) → IsBelowAll rows → raises net n lengths bounds caps more rows ≡ Over row value cap → ⊥
+      (more : ℕ) (rows : ℕ → ℕ) (row value cap : ℕ) → IsBelowAll rows →
+      raises net n lengths bounds caps more rows ≡ Over row value cap → ⊥
   unfolding PassesSo
-  over_none others serve within zero rows row value cap below e = elim (passes n caps rows (raise net n lengths bounds rows) (λ j. Slow j (rows j) (raise net n lengths bounds rows j)) row value cap e) [
-    | inl at ↦ none_fits others rows row below serve within at.0 at.1
-    | inr on ↦ (let never : Slow on.0 (rows on.0) (raise net n lengths bounds rows on.0) ≡ Over row value cap = on.1 in cc)
-  ]
-  over_none others serve within (suc more) rows row value cap below e = elim (passes n caps rows (raise net n lengths bounds rows) (λ j. raises net n lengths bounds caps more (raise net n lengths bounds rows)) row value cap e) [
-    | inl at ↦ none_fits others rows row below serve within at.0 at.1
-    | inr on ↦ over_none others serve within more (raise net n lengths bounds rows) row value cap (stays_below rows below) on.1
-  ]
+  over_none others serve within zero rows row value cap below e =
+      elim (passes n caps rows (raise net n lengths bounds rows) (λ j.
+      Slow j (rows j) (raise net n lengths bounds rows j)) row value cap e) [
+        | inl at ↦ none_fits others rows row below serve within at.0 at.1
+        | inr on ↦ (let never : Slow on.0 (rows on.0) (raise net n lengths bounds rows on.0) ≡ Over row value cap =
+            on.1 in cc)
+      ]
+  over_none others serve within (suc more) rows row value cap below e =
+      elim (passes n caps rows (raise net n lengths bounds rows) (λ j.
+      raises net n lengths bounds caps more (raise net n lengths bounds rows)) row value cap e) [
+        | inl at ↦ none_fits others rows row below serve within at.0 at.1
+        | inr on ↦ over_none others serve within more (raise net n lengths bounds rows) row value cap
+            (stays_below rows below) on.1
+      ]
 
   from_zero : IsBelowAll (λ j. 0)
   unfolding IsBelowAll
@@ -204,8 +255,10 @@ module _ (grow : TotalsGrow) (none : NoTotalIsNegative) (net : Net) (n : ℕ) (l
 
 pub rest_is_least : TotalsGrow → NoTotalIsNegative → RestIsLeast
 rest_is_least grow none net n lengths bounds caps rows inside some e =
-    rest_least grow none net n lengths bounds caps some 63 (λ j. 0) rows (from_zero grow none net n lengths bounds caps) e
+    rest_least grow none net n lengths bounds caps some 63 (λ j.
+    0) rows (from_zero grow none net n lengths bounds caps) e
 
 pub over_has_none : TotalsGrow → NoTotalIsNegative → OverHasNone
 over_has_none grow none net n lengths bounds caps others row value cap inside e serve within =
-    over_none grow none net n lengths bounds caps others serve within 63 (λ j. 0) row value cap (from_zero grow none net n lengths bounds caps) e
+    over_none grow none net n lengths bounds caps others serve within 63 (λ j.
+    0) row value cap (from_zero grow none net n lengths bounds caps) e

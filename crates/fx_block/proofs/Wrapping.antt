@@ -1,5 +1,6 @@
 -- Where numbers without wrapping are bounded, they are the words.
-use Rattle.std.proofs.Common.{◌≡◌, ℕ, zero, suc, ◌+◌, ◌*◌, ◌-◌, ◌^◌, ◌<◌, ◌≤◌, List, [], ◌∷◌, length, get_or, arith, refl, ap, ap₂, ◌∙◌, subst}
+use Rattle.std.proofs.Common.{◌≡◌, ℕ, zero, suc, ◌+◌, ◌*◌, ◌-◌, ◌^◌, ◌<◌, ◌≤◌, List, [], ◌∷◌, length, get_or}
+use Rattle.std.proofs.Common.{arith, refl, ap, ap₂, ◌∙◌, subst}
 use Rattle.std.proofs.Math.IntN.{ℤ, pos, negsuc, ◌+ℤ◌, ◌*ℤ◌, neg_ℤ}
 use Rattle.std.specs.Int.Signed.{◌≤ℤ◌, ◌<ℤ◌}
 use Rattle.std.specs.Prelude.{unsigned_abs}
@@ -30,7 +31,8 @@ same_terms : (i inputs : ℕ) (now later old input : ℕ → ℤ) (ts : List Cod
     ((j : ℕ) → j < i → now j ≡ later j) → terms_sum now old input ts ≡ terms_sum later old input ts
 same_terms i inputs now later old input [] sources h = refl
 same_terms i inputs now later old input (t ∷ ts) sources h =
-    ap₂ (λ x y. weight t *ℤ x +ℤ y) (same_read t.from (sources 0 t (omega arith))) (same_terms i inputs now later old input ts (λ n d l. sources (suc n) d (omega arith)) h)
+    ap₂ (λ x y. weight t *ℤ x +ℤ y) (same_read t.from (sources 0 t (omega arith)))
+    (same_terms i inputs now later old input ts (λ n d l. sources (suc n) d (omega arith)) h)
   where
     same_read : (from : Read) → SourceFits i inputs from → word_read now old input from ≡ word_read later old input from
     same_read (Now j) l = h j l
@@ -48,20 +50,23 @@ ideal_is_floored p fits law u k i row =
 -- ---- what fits
 
 -- a sum whose floor is within x is within d (x + 1)
-within : (a y : ℤ) (d x h : ℕ) → 0 < d → (pos d *ℤ y) ≤ℤ a → a <ℤ (pos d *ℤ y +ℤ pos d) → unsigned_abs y ≤ x → d * (x + 1) ≤ h →
+within : (a y : ℤ) (d x h : ℕ) → 0 < d → (pos d *ℤ y) ≤ℤ a → a <ℤ (pos d *ℤ y +ℤ pos d) → unsigned_abs y ≤ x →
+    d * (x + 1) ≤ h →
     (neg_ℤ (pos h) ≤ℤ a) × (a <ℤ pos h)
 within a (pos y) d x h p lo hi b k = (omega (arith, ints), omega (arith, ints, mul-le-mul_left d b))
 within a (negsuc y) d x h p lo hi b k = (omega (arith, ints, mul-le-mul_left d b), omega (arith, ints))
 
 -- the accumulator holds the sum of a row whose floor is within x
-sum_fits : (p : Code) (i x : ℕ) (a : ℤ) → WidthsHold p i x → unsigned_abs (floor_div a (2 ^ (row_at p i).shift)) ≤ x → FitsBits p.accumulator a
+sum_fits : (p : Code) (i x : ℕ) (a : ℤ) → WidthsHold p i x →
+    unsigned_abs (floor_div a (2 ^ (row_at p i).shift)) ≤ x → FitsBits p.accumulator a
 sum_fits p i x a w b =
     let d : ℕ = 2 ^ (row_at p i).shift in
     let y : ℤ = floor_div a d in
     let some : 0 < d = pow_pos (row_at p i).shift in
     let turned : pos d *ℤ y ≡ y *ℤ pos d = mul_comm (pos d) y in
     let low : (pos d *ℤ y) ≤ℤ a = subst (λ s. s ≤ℤ a) (λ t. mul_comm y (pos d) t) (floor_below a d some) in
-    let high : a <ℤ (pos d *ℤ y +ℤ pos d) = subst (λ s. a <ℤ (s +ℤ pos d)) (λ t. mul_comm y (pos d) t) (floor_above a d some) in
+    let high : a <ℤ (pos d *ℤ y +ℤ pos d) =
+    subst (λ s. a <ℤ (s +ℤ pos d)) (λ t. mul_comm y (pos d) t) (floor_above a d some) in
     let fits : d * (x + 1) ≤ 2 ^ (p.accumulator - 1) = omega (arith, ints, w.sum) in
     let h = within a y d x (2 ^ (p.accumulator - 1)) some low high b fits in
     record { low = h.0; high = h.1 }
@@ -77,7 +82,8 @@ module _ (p : Code) (fits : CodeFits p) (u : ℕ → ℕ → ℤ) (x : ℕ → �
     (widths : (i : ℕ) → i < length p.rows → WidthsHold p i (x i)) where
   -- what is stored on the way is bounded too
   on_the_way : (k i : ℕ) → i < length p.rows →
-      unsigned_abs (ideal_step p u k i (so_far (length p.rows) (ideal_step p u) k i) (last (length p.rows) (ideal_step p u) k)) ≤ x i
+      unsigned_abs (ideal_step p u k i (so_far (length p.rows) (ideal_step p u) k i)
+      (last (length p.rows) (ideal_step p u) k)) ≤ x i
   on_the_way k i l =
       subst (λ y. unsigned_abs y ≤ x i)
       (fill_at (λ i now. ideal_step p u k i now (last (length p.rows) (ideal_step p u) k)) (length p.rows) i l)
@@ -94,28 +100,35 @@ module _ (p : Code) (fits : CodeFits p) (u : ℕ → ℕ → ℤ) (x : ℕ → �
       word_step p u k i (so_far (length p.rows) (ideal_step p u) k i) (last (length p.rows) (ideal_step p u) k)
       ≡ ideal_step p u k i (so_far (length p.rows) (ideal_step p u) k i) (last (length p.rows) (ideal_step p u) k)
   same_word k i l =
-      let a : ℤ = whole_sum (row_at p i) (so_far (length p.rows) (ideal_step p u) k i) (last (length p.rows) (ideal_step p u) k) (u k) in
+      let a : ℤ = whole_sum (row_at p i) (so_far (length p.rows) (ideal_step p u) k i)
+      (last (length p.rows) (ideal_step p u) k) (u k) in
       let w : WidthsHold p i (x i) = widths i l in
-      let e : wrap p.accumulator a ≡ a = wrap_fits p.accumulator a accumulator_positive (sum_fits p i (x i) a w (on_the_way k i l)) in
+      let e : wrap p.accumulator a ≡ a =
+      wrap_fits p.accumulator a accumulator_positive (sum_fits p i (x i) a w (on_the_way k i l)) in
       ap (λ y. wrap (row_at p i).width (floor_div y (2 ^ (row_at p i).shift))) e
-      ∙ wrap_fits (row_at p i).width (floor_div a (2 ^ (row_at p i).shift)) (width_positive i l) (word_fits p i (x i) (floor_div a (2 ^ (row_at p i).shift)) w (on_the_way k i l))
+      ∙ wrap_fits (row_at p i).width (floor_div a (2 ^ (row_at p i).shift)) (width_positive i l)
+      (word_fits p i (x i) (floor_div a (2 ^ (row_at p i).shift)) w (on_the_way k i l))
 
   same_last : (k : ℕ) → last (length p.rows) (word_step p u) k ≡ last (length p.rows) (ideal_step p u) k
   same_last zero = refl
   same_last (suc k) =
       ap (λ (old : ℕ → ℤ). fill (λ i now. word_step p u k i now old) (length p.rows)) (same_last k)
-      ∙ same_fill (λ i now. word_step p u k i now (last (length p.rows) (ideal_step p u) k)) (λ i now. ideal_step p u k i now (last (length p.rows) (ideal_step p u) k)) (length p.rows)
+      ∙ same_fill (λ i now. word_step p u k i now (last (length p.rows) (ideal_step p u) k)) (λ i now.
+      ideal_step p u k i now (last (length p.rows) (ideal_step p u) k)) (length p.rows)
       (λ i l. same_word k i l)
 
-  same_so_far : (k i : ℕ) → i ≤ length p.rows → so_far (length p.rows) (word_step p u) k i ≡ so_far (length p.rows) (ideal_step p u) k i
+  same_so_far : (k i : ℕ) → i ≤ length p.rows → so_far (length p.rows) (word_step p u) k i
+      ≡ so_far (length p.rows) (ideal_step p u) k i
   same_so_far k i h =
       ap (λ (old : ℕ → ℤ). fill (λ i now. word_step p u k i now old) i) (same_last k)
-      ∙ same_fill (λ i now. word_step p u k i now (last (length p.rows) (ideal_step p u) k)) (λ i now. ideal_step p u k i now (last (length p.rows) (ideal_step p u) k)) i
+      ∙ same_fill (λ i now. word_step p u k i now (last (length p.rows) (ideal_step p u) k)) (λ i now.
+      ideal_step p u k i now (last (length p.rows) (ideal_step p u) k)) i
       (λ j l. same_word k j (omega arith))
 
   exact : (k i : ℕ) → i < length p.rows → IsExact p u k i
   exact k i l =
-      let e : sum_at p u k i ≡ whole_sum (row_at p i) (so_far (length p.rows) (ideal_step p u) k i) (last (length p.rows) (ideal_step p u) k) (u k) =
+      let e : sum_at p u k i ≡ whole_sum (row_at p i) (so_far (length p.rows) (ideal_step p u) k i)
+      (last (length p.rows) (ideal_step p u) k) (u k) =
       λ t. whole_sum (row_at p i) (same_so_far k i (omega arith) t) (same_last k t) (u k) in
       let b : unsigned_abs (floor_div (sum_at p u k i) (2 ^ (row_at p i).shift)) ≤ x i = rw e (on_the_way k i l) in
       let w : WidthsHold p i (x i) = widths i l in
@@ -128,4 +141,5 @@ module _ (p : Code) (fits : CodeFits p) (u : ℕ → ℕ → ℤ) (x : ℕ → �
   same k i = ap (λ (f : ℕ → ℤ). f i) (same_last (suc k))
 
 pub words_are_ideal : (p : Code) → CodeFits p → WordsAreIdeal p
-words_are_ideal p fits u x bounded widths k i row = (exact p fits u x bounded widths k i row, same p fits u x bounded widths k i)
+words_are_ideal p fits u x bounded widths k i row =
+    (exact p fits u x bounded widths k i row, same p fits u x bounded widths k i)

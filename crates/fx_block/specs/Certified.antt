@@ -17,8 +17,8 @@ use Rattle.fx_block.specs.Sound.{IsSound}
 abbrev pub PassingIsSound : Filter → Code → Certificate → Type 0
 PassingIsSound filter p c = IsWhole p → Passes filter p c → IsSound filter p c.errors
 
--- and on each admissible input list each expanded row of the filter, where it has just what it reads, is within its bound at all
--- moments, in each net that has these rows
+-- and on each admissible input list each expanded row of the filter, where it has just what it reads, is within its
+-- bound at all moments, in each net that has these rows
 abbrev pub OriginalStaysWithin : Filter → Code → Certificate → Type 0
 OriginalStaysWithin filter p c =
     IsWhole p → Passes filter p c → (list : List (List ℤ)) → IsAdmissible filter list →

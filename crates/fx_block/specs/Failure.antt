@@ -1,5 +1,6 @@
 -- The first inequality that fails, with both sides.
-use Rattle.std.specs.Prelude.{ℕ, zero, suc, ◌+◌, ◌-◌, ◌^◌, ◌==◌, Bool, ℤ, pos, ◌+ℤ◌, ◌*ℤ◌, int_le, length, slice_index, Option, Some, None, if◌then◌else◌}
+use Rattle.std.specs.Prelude.{ℕ, zero, suc, ◌+◌, ◌-◌, ◌^◌, ◌==◌, Bool, ℤ, pos, ◌+ℤ◌, ◌*ℤ◌, int_le, length}
+use Rattle.std.specs.Prelude.{slice_index, Option, Some, None, if◌then◌else◌}
 use Rattle.std.specs.Option.{option_or}
 use Rattle.fx_nums.specs.declared.limits.TheConstants.{OPERAND_BITS}
 use Rattle.fx_files.specs.Filter.{Filter}
@@ -10,7 +11,9 @@ use Rattle.fx_sweep.specs.declared.target.RangeAt.{RangeAt}
 use Rattle.fx_block.specs.Formats.{input_at, output_at}
 use Rattle.fx_block.specs.Passes.{bound_at, error_at, pair_range, pair_total, row_count, row_range, row_total}
 use Rattle.fx_block.specs.declared.inequality.Inequality.{Inequality}
-use Rattle.fx_block.specs.declared.inequality.Inequality.TheVariants.{Inputs, Outputs, Accumulator, InputWidth, OutputWidth, Rows, Errors, Sweep, Bound, Word, Sum, Error, Wanted}
+use Rattle.fx_block.specs.declared.inequality.Inequality.TheVariants.{Inputs, Outputs, Accumulator, InputWidth}
+use Rattle.fx_block.specs.declared.inequality.Inequality.TheVariants.{OutputWidth, Rows, Errors, Sweep, Bound}
+use Rattle.fx_block.specs.declared.inequality.Inequality.TheVariants.{Word, Sum, Error, Wanted}
 
 pub record Failure : Type 0 where
   pub which : Inequality
@@ -47,8 +50,10 @@ form_failure filter p c =
     option_or (unequal Inputs (length p.inputs) (length filter.inputs)) (
     option_or (unequal Outputs (length p.outputs) (length filter.outputs)) (
     option_or (unequal Accumulator p.accumulator filter.settings.accumulator) (
-    option_or (first_of (length filter.inputs) (λ j. unequal (InputWidth j) (slice_index p.inputs j) (input_at filter j).width)) (
-    option_or (first_of (length filter.outputs) (λ o. unequal (OutputWidth o) (row_at p (slice_index p.outputs o)).width (output_at filter o).width)) (
+    option_or (first_of (length filter.inputs) (λ j.
+    unequal (InputWidth j) (slice_index p.inputs j) (input_at filter j).width)) (
+    option_or (first_of (length filter.outputs) (λ o.
+    unequal (OutputWidth o) (row_at p (slice_index p.outputs o)).width (output_at filter o).width)) (
     option_or (unequal Rows (length c.bounds) (row_count filter p)) (
     unequal Errors (length c.errors) (length filter.outputs)))))))
 
@@ -60,20 +65,26 @@ range_failure filter p c =
     (first_of (length filter.outputs) (λ o. out_of_range (row_count filter p + o) (pair_range filter p c o)))
 
 abbrev pub bound_failure : Filter → Code → Certificate → Option Failure
-bound_failure filter p c = first_of (row_count filter p) (λ j. above (Bound j) (row_total filter p c j) (pos (bound_at c j) *ℤ one))
+bound_failure filter p c =
+    first_of (row_count filter p) (λ j. above (Bound j) (row_total filter p c j) (pos (bound_at c j) *ℤ one))
 
 abbrev pub word_failure : Code → Certificate → Option Failure
-word_failure p c = first_of (length p.rows) (λ i. above (Word i) (pos (bound_at c i)) (pos (2 ^ ((row_at p i).width - 1) - 1)))
+word_failure p c = first_of (length p.rows) (λ i.
+    above (Word i) (pos (bound_at c i)) (pos (2 ^ ((row_at p i).width - 1) - 1)))
 
 abbrev pub sum_failure : Code → Certificate → Option Failure
 sum_failure p c =
-    first_of (length p.rows) (λ i. above (Sum i) (pos (2 ^ (row_at p i).shift) *ℤ (pos (bound_at c i) +ℤ pos 1)) (pos (2 ^ (p.accumulator - 1))))
+    first_of (length p.rows) (λ i.
+    above (Sum i) (pos (2 ^ (row_at p i).shift) *ℤ (pos (bound_at c i) +ℤ pos 1))
+    (pos (2 ^ (p.accumulator - 1))))
 
 abbrev pub error_failure : Filter → Code → Certificate → Option Failure
-error_failure filter p c = first_of (length filter.outputs) (λ o. above (Error o) (pair_total filter p c o) (error_at c o))
+error_failure filter p c =
+    first_of (length filter.outputs) (λ o. above (Error o) (pair_total filter p c o) (error_at c o))
 
 abbrev pub wanted_failure : Filter → Certificate → Option Failure
-wanted_failure filter c = first_of (length filter.outputs) (λ o. above (Wanted o) (error_at c o) (output_at filter o).target)
+wanted_failure filter c =
+    first_of (length filter.outputs) (λ o. above (Wanted o) (error_at c o) (output_at filter o).target)
 
 abbrev pub first_failure : Filter → Code → Certificate → Option Failure
 first_failure filter p c =

@@ -27,13 +27,15 @@ use Rattle.fx_block.specs.Near.{IsNearExact}
 
 -- ---- bounds for all time
 
--- where each bound serves the next value too, the total of a target, swept for any moments, bounds the target at all moments
+-- where each bound serves the next value too, the total of a target, swept for any moments, bounds the target at all
+-- moments
 abbrev pub TotalsServeForAllTime : Type 0
 TotalsServeForAllTime =
     (net : Net) (target : Target) (q m : ℕ) (u z perturbations : ℕ → ℕ → ℤ) (lengths bounds rows : ℕ → ℕ) →
     TargetFits net.rows target → IsDenominator net q → IsRun net q u z perturbations → WordsWithin bounds u →
     BoundsServe net lengths bounds rows → 0 < m → (k : ℕ) →
-    pos (unsigned_abs (target_value net target q z k)) ≤ℤ (pos (block_den net q k) *ℤ target_total net (start_of target) m bounds rows)
+    pos (unsigned_abs (target_value net target q z k)) ≤ℤ
+    (pos (block_den net q k) *ℤ target_total net (start_of target) m bounds rows)
 
 -- ---- programs
 
@@ -45,7 +47,8 @@ IdealIsFloored p = (u : ℕ → ℕ → ℤ) (k i : ℕ) → i < length p.rows �
 abbrev pub WordsAreIdeal : Code → Type 0
 WordsAreIdeal p =
     (u : ℕ → ℕ → ℤ) (x : ℕ → ℕ) →
-    ((k i : ℕ) → i < length p.rows → unsigned_abs (ideal p u k i) ≤ x i) → ((i : ℕ) → i < length p.rows → WidthsHold p i (x i)) →
+    ((k i : ℕ) → i < length p.rows → unsigned_abs (ideal p u k i) ≤ x i) →
+    ((i : ℕ) → i < length p.rows → WidthsHold p i (x i)) →
     (k i : ℕ) → i < length p.rows → IsExact p u k i × (words p u k i ≡ ideal p u k i)
 
 -- values of a net that begins with a program: its numbers without wrapping, then what the rows read
@@ -60,12 +63,14 @@ JointValuesRun p =
     (net : Net) (q : ℕ) (u : ℕ → ℕ → ℤ) → IsWhole p → HoldsCode net 0 p → IsDenominator net q →
     IsJointRun net p q u (joint_values net p q u)
 
--- in such a net, where bounds serve that words and accumulators take, each row of the program is exact and within its bound, on
--- all inputs within theirs and at all moments
+-- in such a net, where bounds serve that words and accumulators take, each row of the program is exact and within its
+-- bound, on all inputs within theirs and at all moments
 abbrev pub BoundedRowsAreExact : Code → Type 0
 BoundedRowsAreExact p =
-    (net : Net) (q : ℕ) (u : ℕ → ℕ → ℤ) (lengths bounds rows : ℕ → ℕ) → IsWhole p → HoldsCode net 0 p → IsDenominator net q →
-    WordsWithin bounds u → BoundsServe net lengths bounds rows → ((i : ℕ) → i < length p.rows → WidthsHold p i (rows i)) →
+    (net : Net) (q : ℕ) (u : ℕ → ℕ → ℤ) (lengths bounds rows : ℕ → ℕ) → IsWhole p → HoldsCode net 0 p →
+    IsDenominator net q →
+    WordsWithin bounds u → BoundsServe net lengths bounds rows →
+    ((i : ℕ) → i < length p.rows → WidthsHold p i (rows i)) →
     (k i : ℕ) → i < length p.rows →
     IsExact p u k i × (words p u k i ≡ ideal p u k i) × (unsigned_abs (words p u k i) ≤ rows i)
 
@@ -82,7 +87,8 @@ JointNetsHoldBoth = (n : ℕ) (p : Code) (eqs : Equations) → count_of p eqs �
 -- in the run of that net the expanded rows have their exact values, over each denominator and for all inputs
 abbrev pub JointValuesAreExact : Code → Type 0
 JointValuesAreExact p =
-    (eqs : Equations) (q g : ℕ) (u : ℕ → ℕ → ℤ) → IsWhole p → EquationsFit eqs → IsDenominator (net_of p eqs) q → DividesEach g eqs.terms →
+    (eqs : Equations) (q g : ℕ) (u : ℕ → ℕ → ℤ) → IsWhole p → EquationsFit eqs →
+    IsDenominator (net_of p eqs) q → DividesEach g eqs.terms →
     HasExactValues eqs g (net_of p eqs) q (length p.rows) u (joint_values (net_of p eqs) p q u)
 
 -- inputs within their bounds, and bounds of the rows of both that serve and that words and accumulators take
@@ -94,20 +100,24 @@ pub record AreBounded (p : Code) (eqs : Equations) (u : ℕ → ℕ → ℤ) (le
 -- then each row of the program is exact at all moments
 abbrev pub RowsAreExact : Code → Type 0
 RowsAreExact p =
-    (eqs : Equations) (u : ℕ → ℕ → ℤ) (lengths bounds rows : ℕ → ℕ) → IsWhole p → EquationsFit eqs → AreBounded p eqs u lengths bounds rows →
+    (eqs : Equations) (u : ℕ → ℕ → ℤ) (lengths bounds rows : ℕ → ℕ) → IsWhole p → EquationsFit eqs →
+    AreBounded p eqs u lengths bounds rows →
     (k i : ℕ) → i < length p.rows → IsExact p u k i
 
 -- the total of a pair of a row of the program and one of the equations bounds how far the word is from the exact value
 abbrev pub PairsAreNear : Code → Type 0
 PairsAreNear p =
-    (eqs : Equations) (u : ℕ → ℕ → ℤ) (lengths bounds rows : ℕ → ℕ) → IsWhole p → EquationsFit eqs → AreBounded p eqs u lengths bounds rows →
-    (m code i : ℕ) (shift e : ℤ) → 0 < m → code < length p.rows → i < eqs.rows → unsigned_abs shift ≤ unsigned_abs GREATEST_SHIFT →
+    (eqs : Equations) (u : ℕ → ℕ → ℤ) (lengths bounds rows : ℕ → ℕ) → IsWhole p → EquationsFit eqs →
+    AreBounded p eqs u lengths bounds rows →
+    (m code i : ℕ) (shift e : ℤ) → 0 < m → code < length p.rows → i < eqs.rows →
+    unsigned_abs shift ≤ unsigned_abs GREATEST_SHIFT →
     target_total (net_of p eqs) (start_of (Pair code (original_row p eqs i) shift)) m bounds rows ≤ℤ e →
     (k : ℕ) → IsNearExact eqs u k i shift (words p u k code) e
 
 -- and each expanded row is within its bound at all moments, in each net that runs the equations
 abbrev pub ExpandedRowsAreWithin : Code → Type 0
 ExpandedRowsAreWithin p =
-    (eqs : Equations) (u : ℕ → ℕ → ℤ) (lengths bounds rows : ℕ → ℕ) → IsWhole p → EquationsFit eqs → AreBounded p eqs u lengths bounds rows →
+    (eqs : Equations) (u : ℕ → ℕ → ℤ) (lengths bounds rows : ℕ → ℕ) → IsWhole p → EquationsFit eqs →
+    AreBounded p eqs u lengths bounds rows →
     (net : Net) (at q : ℕ) (z : ℕ → ℕ → ℤ) → RunsEquations eqs net at q u z →
     (k r : ℕ) → r < length (expanded eqs) → IsWithin net q z k (at + r) (rows (length p.rows + r))

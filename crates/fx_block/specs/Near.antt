@@ -8,7 +8,8 @@ use Rattle.fx_nums.specs.declared.limits.TheConstants.{SCALE_BITS}
 
 -- the word y differs from the value z / g, times 2 ^ b over 2 ^ a, by at most e / 2 ^ 64
 abbrev pub IsNear : ℤ → ℤ → ℕ → ℕ → ℕ → ℤ → Type 0
-IsNear y z g a b e = pos (2 ^ SCALE_BITS * unsigned_abs (y *ℤ pos (g * 2 ^ a) -ℤ z *ℤ pos (2 ^ b))) ≤ℤ (e *ℤ pos (g * 2 ^ a))
+IsNear y z g a b e = pos (2 ^ SCALE_BITS * unsigned_abs (y *ℤ pos (g * 2 ^ a) -ℤ z *ℤ pos (2 ^ b))) ≤ℤ
+    (e *ℤ pos (g * 2 ^ a))
 
 -- the word y differs from 2 ^ shift times the exact value of row i at moment k by at most e / 2 ^ 64
 abbrev pub IsNearExact : Equations → (ℕ → ℕ → ℤ) → ℕ → ℕ → ℤ → ℤ → ℤ → Type 0

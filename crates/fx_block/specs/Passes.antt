@@ -1,5 +1,6 @@
 -- What a certificate has to meet, for a filter and a program.
-use Rattle.std.specs.Prelude.{◌≡◌, ℕ, ◌<◌, None, ℤ, pos, ◌*ℤ◌, ◌≤ℤ◌, unsigned_abs, length, slice_index, slice_index_or, Option}
+use Rattle.std.specs.Prelude.{◌≡◌, ℕ, ◌<◌, None, ℤ, pos, ◌*ℤ◌, ◌≤ℤ◌, unsigned_abs, length, slice_index}
+use Rattle.std.specs.Prelude.{slice_index_or, Option}
 use Rattle.fx_files.specs.Filter.{Filter}
 use Rattle.fx_net.specs.Net.{Net}
 use Rattle.fx_code.specs.Code.{Code, row_at}
@@ -32,14 +33,18 @@ abbrev pub row_count : Filter → Code → ℕ
 row_count filter p = count_of p filter.equations
 
 abbrev pub pair_of : Filter → Code → ℕ → Target
-pair_of filter p o = Pair (slice_index p.outputs o) (original_row p filter.equations (output_at filter o).row) (shift_of filter o)
+pair_of filter p o = Pair (slice_index p.outputs o) (original_row p filter.equations (output_at filter o).row)
+    (shift_of filter o)
 
 -- the total of row j, and that of the pair of output o
 abbrev pub row_total : Filter → Code → Certificate → ℕ → ℤ
-row_total filter p c j = target_total (judged_net filter p) (start_of (Row j)) (row_length c j) (bound_of filter) (bound_at c)
+row_total filter p c j =
+    target_total (judged_net filter p) (start_of (Row j)) (row_length c j) (bound_of filter) (bound_at c)
 
 abbrev pub pair_total : Filter → Code → Certificate → ℕ → ℤ
-pair_total filter p c o = target_total (judged_net filter p) (start_of (pair_of filter p o)) (output_length c o) (bound_of filter) (bound_at c)
+pair_total filter p c o =
+    target_total (judged_net filter p) (start_of (pair_of filter p o)) (output_length c o) (bound_of filter)
+    (bound_at c)
 
 -- where the sweep of row j, and that of the pair of output o, first reaches its limit
 abbrev pub row_range : Filter → Code → Certificate → ℕ → Option RangeAt
@@ -56,12 +61,14 @@ pub record IsOfForm (filter : Filter) (p : Code) (c : Certificate) : Type 0 wher
   pub outputs : length p.outputs ≡ length filter.outputs
   pub accumulator : p.accumulator ≡ filter.settings.accumulator
   pub input_widths : (j : ℕ) → j < length filter.inputs → slice_index p.inputs j ≡ (input_at filter j).width
-  pub output_widths : (o : ℕ) → o < length filter.outputs → (row_at p (slice_index p.outputs o)).width ≡ (output_at filter o).width
+  pub output_widths : (o : ℕ) → o < length filter.outputs →
+      (row_at p (slice_index p.outputs o)).width ≡ (output_at filter o).width
   pub rows : length c.bounds ≡ row_count filter p
   pub errors : length c.errors ≡ length filter.outputs
 
--- All seven hold: the form; no number of a sweep reaches its limit; each row's bound serves; words and accumulators take the
--- bounds of the program's rows; the total of each output's pair is at most its error, and that at most the wanted one.
+-- All seven hold: the form; no number of a sweep reaches its limit; each row's bound serves; words and accumulators
+-- take the bounds of the program's rows; the total of each output's pair is at most its error, and that at most the
+-- wanted one.
 pub record Passes (filter : Filter) (p : Code) (c : Certificate) : Type 0 where
   pub form : IsOfForm filter p c
   pub row_ranges : (j : ℕ) → j < row_count filter p → row_range filter p c j ≡ None

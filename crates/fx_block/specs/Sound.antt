@@ -11,14 +11,18 @@ use Rattle.fx_block.specs.Near.{IsNearExact}
 
 -- the word of output o at moment k is near the filter's exact output, in output steps
 abbrev pub IsNearAt : Filter → Code → (ℕ → ℕ → ℤ) → ℕ → ℕ → ℤ → Type 0
-IsNearAt filter p u k o e = IsNearExact filter.equations u k (output_at filter o).row (shift_of filter o) (output_word p u k o) e
+IsNearAt filter p u k o e =
+    IsNearExact filter.equations u k (output_at filter o).row (shift_of filter o) (output_word p u k o) e
 
--- The program has the filter's inputs and outputs, and there is an error for each output. For every admissible input list,
--- at each of its moments, each row of the program is exact, and each output is within its error of the filter's exact output.
+-- The program has the filter's inputs and outputs, and there is an error for each output. For every admissible input
+-- list, at each of its moments, each row of the program is exact, and each output is within its error of the filter's
+-- exact output.
 pub record IsSound (filter : Filter) (p : Code) (errors : List ℤ) : Type 0 where
   pub same_inputs : p.inputs ≡ map (λ (f : InputFormat). f.width) filter.inputs
   pub same_outputs : length p.outputs ≡ length filter.outputs
   pub error_each : length errors ≡ length filter.outputs
-  pub exact : (list : List (List ℤ)) → IsAdmissible filter list → (k i : ℕ) → k < length list → i < length p.rows → IsExact p (word_at list) k i
-  pub near : (list : List (List ℤ)) → IsAdmissible filter list → (k o : ℕ) → k < length list → o < length filter.outputs →
+  pub exact : (list : List (List ℤ)) → IsAdmissible filter list → (k i : ℕ) → k < length list →
+      i < length p.rows → IsExact p (word_at list) k i
+  pub near : (list : List (List ℤ)) → IsAdmissible filter list → (k o : ℕ) → k < length list →
+      o < length filter.outputs →
       IsNearAt filter p (word_at list) k o (slice_index_or errors o (pos 0))

@@ -21,4 +21,5 @@ is_slow (ToldSlow row before after) = true
 
 -- one raise of the bounds of the first n rows, by the totals that are kept
 abbrev pub kept_raise : Kept → ℕ → (ℕ → ℕ) → (ℕ → ℕ) → ℕ → ℕ
-kept_raise k n bounds rows j = cond (nat_lt j n) (unsigned_abs (ceil_div (kept_total k j bounds rows) (2 ^ SCALE_BITS))) 0
+kept_raise k n bounds rows j =
+    cond (nat_lt j n) (unsigned_abs (ceil_div (kept_total k j bounds rows) (2 ^ SCALE_BITS))) 0

@@ -6,9 +6,9 @@ use fx_code::{Program, programs_fit};
 use fx_eqs::systems_fit;
 use fx_files::{Filter, filters_fit};
 
-/// A law with nothing to run: where all inequalities hold of a filter, a whole program and a certificate, the program is
-/// sound for the filter with the certificate's errors, on all admissible inputs and for all time. And each expanded row of
-/// the filter's own equations is within its bound.
+/// A law with nothing to run: where all inequalities hold of a filter, a whole program and a certificate, the program
+/// is sound for the filter with the certificate's errors, on all admissible inputs and for all time. And each expanded
+/// row of the filter's own equations is within its bound.
 pub fn inequalities_make_sound(filter: &Filter, program: &Program, certificate: &Cert)
     ensures sound { PassingIsSound filter.now program.now certificate.now }
     ensures original { OriginalStaysWithin filter.now program.now certificate.now }

@@ -1,4 +1,15 @@
-ghost use Rattle.fx_block.specs.Laws.{BoundedRowsAreExact, ExpandedRowsAreWithin, IdealIsFloored, JointNetsHoldBoth, JointValuesAreExact, JointValuesRun, PairsAreNear, RowsAreExact, TotalsServeForAllTime, WordsAreIdeal};
+ghost use Rattle.fx_block.specs.Laws.{
+  BoundedRowsAreExact,
+  ExpandedRowsAreWithin,
+  IdealIsFloored,
+  JointNetsHoldBoth,
+  JointValuesAreExact,
+  JointValuesRun,
+  PairsAreNear,
+  RowsAreExact,
+  TotalsServeForAllTime,
+  WordsAreIdeal,
+};
 
 use fx_code::{Program, code_stands, joint_nets_have_a_denominator, programs_fit, words_are_a_run};
 use fx_eqs::common_divides_each;
@@ -8,8 +19,8 @@ use fx_net::{
 };
 use fx_sweep::{bounds_hold_for_all_time, targets_have_these_values, totals_bound};
 
-/// A law with nothing to run: where each bound serves the next value too, the total of each target, of a row or of a pair,
-/// swept for any moments, bounds it at all moments, in each perturbed run on inputs within their bounds.
+/// A law with nothing to run: where each bound serves the next value too, the total of each target, of a row or of a
+/// pair, swept for any moments, bounds it at all moments, in each perturbed run on inputs within their bounds.
 pub fn totals_serve_for_all_time()
     ensures { TotalsServeForAllTime }
 {
@@ -27,9 +38,9 @@ pub fn words_are_ideal(program: &Program)
     unrolled_is_its_step();
 }
 
-/// A law with nothing to run: in each net that begins with the rows of a whole program, the numbers of the program without
-/// wrapping and, in the other rows, what these read are a run, over each denominator of the net and for all inputs. The
-/// rows of the program are off by at most their class in half steps, the others by nothing.
+/// A law with nothing to run: in each net that begins with the rows of a whole program, the numbers of the program
+/// without wrapping and, in the other rows, what these read are a run, over each denominator of the net and for all
+/// inputs. The rows of the program are off by at most their class in half steps, the others by nothing.
 pub fn ideal_values_run(program: &Program)
     ensures { JointValuesRun program.now }
 {
@@ -38,8 +49,8 @@ pub fn ideal_values_run(program: &Program)
     words_are_ideal(program);
 }
 
-/// A law with nothing to run: the net of a program and a system of equations holds the rows of the one and, behind them, the
-/// expanded rows of the other.
+/// A law with nothing to run: the net of a program and a system of equations holds the rows of the one and, behind
+/// them, the expanded rows of the other.
 pub fn joint_nets_hold_both()
     ensures { JointNetsHoldBoth }
 {
@@ -58,9 +69,9 @@ pub fn joint_values_are_exact(program: &Program)
     expanded_rows_have_the_exact_values();
 }
 
-/// A law with nothing to run: in each net that begins with the rows of a whole program, where each bound serves for all time
-/// and words and accumulators take the bounds of the program's rows, each of these rows is exact and within its bound, at
-/// all moments and on all inputs within their bounds.
+/// A law with nothing to run: in each net that begins with the rows of a whole program, where each bound serves for all
+/// time and words and accumulators take the bounds of the program's rows, each of these rows is exact and within its
+/// bound, at all moments and on all inputs within their bounds.
 pub fn bounded_rows_are_exact(program: &Program)
     ensures { BoundedRowsAreExact program.now }
 {
@@ -69,9 +80,9 @@ pub fn bounded_rows_are_exact(program: &Program)
     words_are_ideal(program);
 }
 
-/// A law with nothing to run: so it is in the net of a whole program and a system of equations. There the total of a pair
-/// bounds how far a word is from 2^shift times an exact value, at all moments, and each expanded row of the equations is
-/// within its bound, in each net that runs them.
+/// A law with nothing to run: so it is in the net of a whole program and a system of equations. There the total of a
+/// pair bounds how far a word is from 2^shift times an exact value, at all moments, and each expanded row of the
+/// equations is within its bound, in each net that runs them.
 pub fn bounds_make_near(program: &Program)
     ensures exact { RowsAreExact program.now }
     ensures near { PairsAreNear program.now }

@@ -1,6 +1,26 @@
 //! The least bounds of rows that serve for all time.
 
-ghost use Rattle.std.specs.Prelude.{◌≡◌, ◌↔◌, ℕ, ◌-◌, ◌^◌, ◌<◌, ◌≤◌, ◌==◌, ◌≢◌, IfSome, nat_lt, not, true, length, List, pos, ◌*ℤ◌, ◌≤ℤ◌, unsigned_abs};
+ghost use Rattle.std.specs.Prelude.{
+  ◌≡◌,
+  ◌↔◌,
+  ℕ,
+  ◌-◌,
+  ◌^◌,
+  ◌<◌,
+  ◌≤◌,
+  ◌==◌,
+  ◌≢◌,
+  IfSome,
+  nat_lt,
+  not,
+  true,
+  length,
+  List,
+  pos,
+  ◌*ℤ◌,
+  ◌≤ℤ◌,
+  unsigned_abs,
+};
 ghost use Rattle.fx_math.specs.Division.{ceil_div};
 ghost use Rattle.fx_net.specs.Net.{Net as AnyNet};
 ghost use Rattle.fx_nums.specs.declared.limits.TheConstants.{SCALE_BITS};
@@ -70,8 +90,8 @@ pub fn most_raises_is_this()
     ensures { MOST_RAISES ≡ 64 }
 {}
 
-/// A law with nothing to run: where raises of all bounds from 0 come to rest, the bounds are the least that serve; where a
-/// raised bound passes its cap, no bounds within the caps serve.
+/// A law with nothing to run: where raises of all bounds from 0 come to rest, the bounds are the least that serve;
+/// where a raised bound passes its cap, no bounds within the caps serve.
 pub fn raises_find_the_least()
     ensures rest { RestIsLeast }
     ensures over { OverHasNone }
@@ -99,14 +119,16 @@ fn is_within(total: i128, x: &[i64], j: usize) -> bool
 }
 
 /// Whether the bound of row `j` serves the next value too: whether its total is at most the bound times 2^64. The first
-/// `t.rows()` filled targets are the rows, and `j` is one of them; bounds of words and of the N rows are 0 to 2147483647.
+/// `t.rows()` filled targets are the rows, and `j` is one of them; bounds of words and of the N rows are 0 to
+/// 2147483647.
 pub fn holds<const N: usize>(t: &Totals<N>, bounds: &[i64; PORTS], x: &[i64], j: usize) -> bool
     requires row { j < N }
     requires filled { j < t.now.leading }
     requires bounds { AreBounds bounds.now }
     requires count { length x.now ≡ N }
     requires rows { AreBounds x.now }
-    ensures { (net : AnyNet) (targets : List AnyTarget) (lengths : List ℕ) → Filled t.now net targets lengths → (result ≡ true) ↔ ServesNext net j (length_in lengths j) (bound_in bounds.now) (bound_in x.now) }
+    ensures { (net : AnyNet) (targets : List AnyTarget) (lengths : List ℕ) → Filled t.now net targets lengths →
+        (result ≡ true) ↔ ServesNext net j (length_in lengths j) (bound_in bounds.now) (bound_in x.now) }
 {
     totals_fit(t);
     is_within(t.total(j, bounds, x), x, j)
@@ -285,7 +307,8 @@ fn end_of(rows: usize, caps: &[i64], x: &[i64], next: &[i64]) -> Least
     requires caps { AreBounds caps.now }
     requires before { AreBounds x.now }
     requires next { AreUpTo (2 ^ 62) next.now }
-    ensures tells { Tells (ended_by rows (bound_in caps.now) (bound_in x.now) (bound_in next.now) (λ j. SlowOf j (bound_in x.now j) (bound_in next.now j))) result (bound_in x.now) }
+    ensures tells { Tells (ended_by rows (bound_in caps.now) (bound_in x.now) (bound_in next.now) (λ j.
+        SlowOf j (bound_in x.now j) (bound_in next.now j))) result (bound_in x.now) }
     ensures within { is_slow result ≡ true → (j : ℕ) → j < rows → bound_in next.now j ≤ bound_in caps.now j }
 {
     match first_over(rows, caps, next) {
@@ -316,7 +339,8 @@ fn raise_once<const N: usize>(
     requires room { length next.old ≡ N }
     ensures count { length next.new ≡ length next.old }
     ensures value { bound_in next.new ≡ kept_raise t.now rows (bound_in bounds.now) (bound_in x.now) }
-    ensures tells { Tells (raises_by (kept_raise t.now rows (bound_in bounds.now)) rows (bound_in caps.now) 0 (bound_in x.now)) result (bound_in x.now) }
+    ensures tells { Tells (raises_by (kept_raise t.now rows (bound_in bounds.now)) rows (bound_in caps.now) 0
+        (bound_in x.now)) result (bound_in x.now) }
     ensures fits { is_slow result ≡ true → AreBounds next.new }
 {
     totals_fit(t);
@@ -342,10 +366,10 @@ fn filled_rows<const N: usize>(t: &Totals<N>) -> usize
     t.rows().min(N)
 }
 
-/// Raises the bounds `x` of the rows from 0, all at once, each to its total over 2^64, rounded up, until a raise changes
-/// nothing, a raised bound passes its cap, or `MOST_RAISES` raises have each changed something. The first `t.rows()` filled
-/// targets are the rows. At rest `x` has the least bounds that serve, with 0 past the rows. Bounds of words and caps are 0 to
-/// 2147483647; `caps`, `x` and `scratch` have N entries.
+/// Raises the bounds `x` of the rows from 0, all at once, each to its total over 2^64, rounded up, until a raise
+/// changes nothing, a raised bound passes its cap, or `MOST_RAISES` raises have each changed something. The first
+/// `t.rows()` filled targets are the rows. At rest `x` has the least bounds that serve, with 0 past the rows. Bounds of
+/// words and caps are 0 to 2147483647; `caps`, `x` and `scratch` have N entries.
 pub fn least_bounds<const N: usize>(
     t: &Totals<N>,
     bounds: &[i64; PORTS],
@@ -362,7 +386,10 @@ pub fn least_bounds<const N: usize>(
     ensures room { length scratch.new ≡ length scratch.old }
     ensures fits { AreBounds x.new }
     ensures past { (j : ℕ) → t.now.leading ≤ j → bound_in x.new j ≡ 0 }
-    ensures end { (net : AnyNet) (targets : List AnyTarget) (lengths : List ℕ) → Filled t.now net targets lengths → t.now.leading ≤ N → Tells (least_by_raises net t.now.leading (length_in lengths) (bound_in bounds.now) (bound_in caps.now)) result (bound_in x.new) }
+    ensures end { (net : AnyNet) (targets : List AnyTarget) (lengths : List ℕ) →
+        Filled t.now net targets lengths → t.now.leading ≤ N →
+        Tells (least_by_raises net t.now.leading (length_in lengths) (bound_in bounds.now) (bound_in caps.now))
+        result (bound_in x.new) }
 {
     let rows = filled_rows(t);
     clear(x);

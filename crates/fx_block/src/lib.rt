@@ -1,5 +1,5 @@
-//! When a program does what a filter asks for, on all inputs and for all time: what a certificate has to meet, and why that
-//! suffices.
+//! When a program does what a filter asks for, on all inputs and for all time: what a certificate has to meet, and why
+//! that suffices.
 #![tactic(auto)]
 
 mod certified;

@@ -1,5 +1,6 @@
 -- The cascade in the first direct form puts out what the equations of its sections put out.
-use Rattle.std.proofs.Common.{◌≡◌, ◌⊎◌, ℕ, zero, suc, ◌+◌, ◌-◌, ◌*◌, ◌<◌, ◌≤◌, inl, inr, List, [], ◌∷◌, ◌++◌, refl, arith, sym, ap, ap₂, subst, ◌∙◌}
+use Rattle.std.proofs.Common.{◌≡◌, ◌⊎◌, ℕ, zero, suc, ◌+◌, ◌-◌, ◌*◌, ◌<◌, ◌≤◌, inl, inr, List, [], ◌∷◌, ◌++◌}
+use Rattle.std.proofs.Common.{refl, arith, sym, ap, ap₂, subst, ◌∙◌}
 use Rattle.std.proofs.Math.IntN.{ℤ, pos, ◌+ℤ◌, ◌*ℤ◌}
 use Rattle.std.proofs.lemmas.Bool.{cases_lt}
 use Rattle.std.proofs.lemmas.Int.{ints}
@@ -22,12 +23,15 @@ use Rattle.fx_sif.proofs.Earlier.{ago, weigh}
 use Rattle.fx_sif.proofs.EntriesOfRow.{InRow}
 use Rattle.fx_sif.proofs.LagSums.{sequence}
 use Rattle.fx_sif.proofs.OneScale.{RowsMeet, cancelled, weight}
-use Rattle.fx_sif.proofs.RowSums.{adds, adds_first, adds_here, adds_its_row, adds_no_row, adds_none, adds_second, all_add}
-use Rattle.fx_cascade.specs.Cascades.{single, taken_in, last_section, df1_section, df1_states, cascade_df1_entries, cascade_df1_form}
+use Rattle.fx_sif.proofs.RowSums.{adds, adds_first, adds_here, adds_its_row, adds_no_row, adds_none}
+use Rattle.fx_sif.proofs.RowSums.{adds_second, all_add}
+use Rattle.fx_cascade.specs.Cascades.{single, taken_in, last_section, df1_section, df1_states}
+use Rattle.fx_cascade.specs.Cascades.{cascade_df1_entries, cascade_df1_form}
 use Rattle.fx_cascade.specs.Sections.{SectionsFit, count_of, b0, b1, b2, a1, a2}
 use Rattle.fx_cascade.proofs.NeverRefused.{count_fits, df1_fits}
 use Rattle.fx_cascade.proofs.SectionSums.{adds_its_part, adds_no_part, before_is, taken_adds, taken_here, taken_suits}
-use Rattle.fx_cascade.proofs.SectionsMeet.{MeetSections, SectionSuits, equations_fit, equations_meet_sections, equations_suit, fed_back_is, numerator_is, sections_same}
+use Rattle.fx_cascade.proofs.SectionsMeet.{MeetSections, SectionSuits, equations_fit, equations_meet_sections}
+use Rattle.fx_cascade.proofs.SectionsMeet.{equations_suit, fed_back_is, numerator_is, sections_same}
 
 -- the earlier inputs, and then the feedback
 regrouped : (a b c d e : ℤ) → a +ℤ (b +ℤ (c +ℤ (d +ℤ (e +ℤ pos 0)))) ≡ (a +ℤ (b +ℤ (c +ℤ pos 0))) +ℤ (d +ℤ (e +ℤ pos 0))

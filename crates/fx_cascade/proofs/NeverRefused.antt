@@ -1,5 +1,6 @@
 -- The entries of both cascades ascend, so none is refused.
-use Rattle.std.proofs.Common.{◌≡◌, ℕ, zero, suc, ◌+◌, ◌*◌, ◌<◌, ◌≤◌, List, [], ◌∷◌, ◌++◌, length, length-append, arith, subst}
+use Rattle.std.proofs.Common.{◌≡◌, ℕ, zero, suc, ◌+◌, ◌*◌, ◌<◌, ◌≤◌, List, [], ◌∷◌, ◌++◌, length, length-append}
+use Rattle.std.proofs.Common.{arith, subst}
 use Rattle.fx_math.specs.Sums.{joined}
 use Rattle.fx_nums.specs.Fraction.{Fraction, one_fraction, minus}
 use Rattle.fx_eqs.specs.declared.limits.TheConstants.{EQUATION_TERMS}
@@ -7,9 +8,12 @@ use Rattle.fx_sif.specs.Entries.{entry, delays}
 use Rattle.fx_sif.specs.Fits.{ImplicitFits}
 use Rattle.fx_sif.specs.Laws.{WhatFitsHasNoFault, NeverRefused}
 use Rattle.fx_sif.specs.declared.parts.Block.TheVariants.{K, M, P, Q}
-use Rattle.fx_sif.proofs.Ascending.{block_base, Ascends, CountsFit, fits_from, never_from, ascends_append, ascends_higher, ascends_lower, delays_ascend, joined_ascend}
+use Rattle.fx_sif.proofs.Ascending.{block_base, Ascends, CountsFit, fits_from, never_from, ascends_append}
+use Rattle.fx_sif.proofs.Ascending.{ascends_higher, ascends_lower, delays_ascend, joined_ascend}
 use Rattle.fx_sif.proofs.EntryCounts.{delays_count, joined_count}
-use Rattle.fx_cascade.specs.Cascades.{single, taken_in, last_section, df1_section, df1_states, cascade_df1_form, df2t_section, state_takes, first_state, second_state, df2t_states, cascade_df2t_form}
+use Rattle.fx_cascade.specs.Cascades.{single, taken_in, last_section, df1_section, df1_states, cascade_df1_form}
+use Rattle.fx_cascade.specs.Cascades.{df2t_section, state_takes, first_state, second_state, df2t_states}
+use Rattle.fx_cascade.specs.Cascades.{cascade_df2t_form}
 use Rattle.fx_cascade.specs.Sections.{SectionsFit, count_of, b0, b1, b2, a1, a2}
 
 -- ---- the count of sections

@@ -1,5 +1,6 @@
 -- Sections one behind the other, each of which meets its recursion over the one before it, have one solution.
-use Rattle.std.proofs.Common.{◌≡◌, ℕ, zero, suc, ◌+◌, ◌-◌, ◌*◌, ◌<◌, ◌≤◌, List, [], ◌∷◌, length, take, drop, All, refl, arith, lit≤, sym, ap, ap₂, subst, ◌∙◌}
+use Rattle.std.proofs.Common.{◌≡◌, ℕ, zero, suc, ◌+◌, ◌-◌, ◌*◌, ◌<◌, ◌≤◌, List, [], ◌∷◌, length, take, drop}
+use Rattle.std.proofs.Common.{All, refl, arith, lit≤, sym, ap, ap₂, subst, ◌∙◌}
 use Rattle.std.proofs.Math.IntN.{ℤ, pos, ◌+ℤ◌}
 use Rattle.std.proofs.lemmas.List.{drop-drop}
 use Rattle.std.proofs.lemmas.List.Elements.{All-append, All-cons, All-nil}
@@ -17,7 +18,8 @@ use Rattle.fx_sif.proofs.Denominators.{Suits}
 use Rattle.fx_sif.proofs.Earlier.{weigh}
 use Rattle.fx_sif.proofs.EarlierSums.{weigh_same}
 use Rattle.fx_sif.proofs.EquationsAtScale.{EquationsMeet}
-use Rattle.fx_sif.proofs.LagSums.{TermsSuit, kept_whole, lag_sum, lag_sum-back, lag_sum-front, lag_sum-kept, lag_sum-other_recursion, lag_sum-recursion, recursion_suits, sequence}
+use Rattle.fx_sif.proofs.LagSums.{TermsSuit, kept_whole, lag_sum, lag_sum-back, lag_sum-front, lag_sum-kept}
+use Rattle.fx_sif.proofs.LagSums.{lag_sum-other_recursion, lag_sum-recursion, recursion_suits, sequence}
 use Rattle.fx_sif.proofs.OneScale.{no_weight, weight}
 use Rattle.fx_sif.proofs.Recursion.{MeetsAt, fed_back}
 use Rattle.fx_sif.proofs.SystemsFit.{system_fits}

@@ -1,7 +1,8 @@
 -- The cascade in the second direct form transposed puts out what the equations of its sections put out: each state
 -- holds
 -- what is still to be put out of its section.
-use Rattle.std.proofs.Common.{◌≡◌, ◌⊎◌, ℕ, zero, suc, ◌+◌, ◌-◌, ◌*◌, ◌<◌, ◌≤◌, inl, inr, List, [], ◌∷◌, ◌++◌, refl, arith, sym, ap, ap₂, subst, ◌∙◌}
+use Rattle.std.proofs.Common.{◌≡◌, ◌⊎◌, ℕ, zero, suc, ◌+◌, ◌-◌, ◌*◌, ◌<◌, ◌≤◌, inl, inr, List, [], ◌∷◌, ◌++◌}
+use Rattle.std.proofs.Common.{refl, arith, sym, ap, ap₂, subst, ◌∙◌}
 use Rattle.std.proofs.Math.IntN.{ℤ, pos, ◌+ℤ◌, ◌*ℤ◌}
 use Rattle.std.proofs.lemmas.Int.{ints}
 use Rattle.std.proofs.lemmas.List.Elements.{All-head, All-tail}
@@ -24,12 +25,16 @@ use Rattle.fx_sif.proofs.EntriesOfRow.{InRow}
 use Rattle.fx_sif.proofs.LagSums.{sequence}
 use Rattle.fx_sif.proofs.OneScale.{RowsMeet, cancelled, weight}
 use Rattle.fx_sif.proofs.Recursion.{MeetsAt}
-use Rattle.fx_sif.proofs.RowSums.{adds, adds_first, adds_here, adds_its_row, adds_no_row, adds_none, adds_second, all_add}
-use Rattle.fx_cascade.specs.Cascades.{single, taken_in, last_section, df2t_section, state_takes, first_state, second_state, df2t_states, cascade_df2t_entries, cascade_df2t_form}
+use Rattle.fx_sif.proofs.RowSums.{adds, adds_first, adds_here, adds_its_row, adds_no_row, adds_none}
+use Rattle.fx_sif.proofs.RowSums.{adds_second, all_add}
+use Rattle.fx_cascade.specs.Cascades.{single, taken_in, last_section, df2t_section, state_takes, first_state}
+use Rattle.fx_cascade.specs.Cascades.{second_state, df2t_states, cascade_df2t_entries, cascade_df2t_form}
 use Rattle.fx_cascade.specs.Sections.{SectionsFit, count_of, b0, b1, b2, a1, a2}
 use Rattle.fx_cascade.proofs.NeverRefused.{count_fits, df2t_fits}
-use Rattle.fx_cascade.proofs.SectionSums.{adds_its_part, adds_no_part, state_adds, state_here, state_suits, taken_adds, taken_here, taken_suits}
-use Rattle.fx_cascade.proofs.SectionsMeet.{MeetSections, SectionSuits, equations_fit, equations_meet_sections, equations_suit, fed_back_is, numerator_is, sections_same}
+use Rattle.fx_cascade.proofs.SectionSums.{adds_its_part, adds_no_part, state_adds, state_here, state_suits}
+use Rattle.fx_cascade.proofs.SectionSums.{taken_adds, taken_here, taken_suits}
+use Rattle.fx_cascade.proofs.SectionsMeet.{MeetSections, SectionSuits, equations_fit, equations_meet_sections}
+use Rattle.fx_cascade.proofs.SectionsMeet.{equations_suit, fed_back_is, numerator_is, sections_same}
 
 -- ---- sums
 

@@ -4,7 +4,17 @@ ghost use Rattle.std.specs.Prelude.{◌≡◌, ◌≤◌, ◌<◌, ◌+◌, ◌-
 ghost use Rattle.fx_math.specs.Sums.{joined};
 ghost use Rattle.fx_nums.specs.Fraction.{minus, one_fraction};
 ghost use Rattle.fx_sif.specs.Entries.{entry};
-ghost use Rattle.fx_cascade.specs.Cascades.{df1_section, df1_states, df2t_section, df2t_states, first_state, last_section, second_state, state_takes, taken_in};
+ghost use Rattle.fx_cascade.specs.Cascades.{
+  df1_section,
+  df1_states,
+  df2t_section,
+  df2t_states,
+  first_state,
+  last_section,
+  second_state,
+  state_takes,
+  taken_in,
+};
 
 use fx_eqs::SECTIONS;
 use fx_nums::Frac;

@@ -1,5 +1,6 @@
 -- Lines and their text.
-use Rattle.std.proofs.Common.{◌≡◌, ◌==◌, ◌∙◌, ℕ, Bool, true, false, not, cond, List, [], ◌∷◌, ◌++◌, length, refl, sym, ap, arith, inl, inr}
+use Rattle.std.proofs.Common.{◌≡◌, ◌==◌, ◌∙◌, ℕ, Bool, true, false, not, cond, List, [], ◌∷◌, ◌++◌, length}
+use Rattle.std.proofs.Common.{refl, sym, ap, arith, inl, inr}
 use Rattle.std.proofs.lemmas.Bool.{cases_Bool, and_parts, eqb-true}
 use Rattle.std.proofs.lemmas.Bool.Decides.{nat_tests}
 use Rattle.std.proofs.lemmas.List.{append-nil}
@@ -21,7 +22,8 @@ lines_join (c ∷ cs) = elim (cases_Bool (c == 10)) [
 ]
 
 -- a text with no line feed, and a line feed behind it, is a line
-pub line_again : (text rest : List ℕ) → no_feed text ≡ true → lines_of (text ++ 10 ∷ rest) ≡ record { text = text; ended = true } ∷ lines_of rest
+pub line_again : (text rest : List ℕ) → no_feed text ≡ true →
+    lines_of (text ++ 10 ∷ rest) ≡ record { text = text; ended = true } ∷ lines_of rest
 unfolding lines_of
 line_again [] rest h = refl
 line_again (c ∷ cs) rest h =
@@ -48,7 +50,8 @@ no_lines (c ∷ cs) = elim (cases_Bool (c == 10)) [
 
 -- ---- the lines of a text are lines, and lines are those of their text
 
-longer : (b : Bool) (c : ℕ) (text : List ℕ) (behind : List TextLine) → IsEnded b text behind → IsEnded b (c ∷ text) behind
+longer : (b : Bool) (c : ℕ) (text : List ℕ) (behind : List TextLine) → IsEnded b text behind →
+    IsEnded b (c ∷ text) behind
 longer true c text behind h = tt
 longer false c text behind h = (omega arith, h.1)
 
@@ -67,7 +70,8 @@ are_lines (c ∷ cs) = elim (cases_Bool (c == 10)) [
 pub lines_law : LinesLaw
 lines_law bytes = (are_lines bytes, lines_join bytes)
 
-open_again : (c : ℕ) (cs : List ℕ) → no_feed (c ∷ cs) ≡ true → lines_of (c ∷ cs) ≡ record { text = c ∷ cs; ended = false } ∷ []
+open_again : (c : ℕ) (cs : List ℕ) → no_feed (c ∷ cs) ≡ true →
+    lines_of (c ∷ cs) ≡ record { text = c ∷ cs; ended = false } ∷ []
 unfolding lines_of
 open_again c [] h =
     let parts = and_parts (not (c == 10)) true h in
@@ -78,9 +82,11 @@ open_again c (d ∷ ds) h =
     let other : (c == 10) ≡ false = grind (arith, nat_tests) in
     rw other (ap (in_line c) (open_again d ds parts.1))
 
-again_cases : (text : List ℕ) (b : Bool) (ls : List TextLine) → no_feed text ≡ true → IsEnded b text ls → lines_of (joined ls) ≡ ls
+again_cases : (text : List ℕ) (b : Bool) (ls : List TextLine) → no_feed text ≡ true → IsEnded b text ls →
+    lines_of (joined ls) ≡ ls
     → lines_of (text ++ cond b (10 ∷ joined ls) (joined ls)) ≡ record { text = text; ended = b } ∷ ls
-again_cases text true ls free h same = line_again text (joined ls) free ∙ ap (λ (t : List TextLine). record { text = text; ended = true } ∷ t) same
+again_cases text true ls free h same = line_again text (joined ls) free
+    ∙ ap (λ (t : List TextLine). record { text = text; ended = true } ∷ t) same
 again_cases [] false ls free h same = absurd (omega (arith, h.0))
 again_cases (c ∷ cs) false ls free h same = rw (h.1, append-nil cs) (open_again c cs free)
 

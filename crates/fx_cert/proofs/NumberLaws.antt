@@ -1,5 +1,7 @@
 -- Numbers as they are read are those that are written.
-use Rattle.std.proofs.Common.{◌≡◌, ◌≤◌, ◌<◌, ◌+◌, ◌-◌, ◌*◌, ◌/◌, ◌%◌, ◌^◌, ◌==◌, ◌&&◌, ◌∙◌, ℕ, Bool, true, false, not, cond, nat_le, List, [], ◌∷◌, ◌++◌, decimal, Option, Some, None, refl, sym, ap, append_assoc, arith, inl, inr}
+use Rattle.std.proofs.Common.{◌≡◌, ◌≤◌, ◌<◌, ◌+◌, ◌-◌, ◌*◌, ◌/◌, ◌%◌, ◌^◌, ◌==◌, ◌&&◌, ◌∙◌, ℕ, Bool, true}
+use Rattle.std.proofs.Common.{false, not, cond, nat_le, List, [], ◌∷◌, ◌++◌, decimal, Option, Some, None, refl}
+use Rattle.std.proofs.Common.{sym, ap, append_assoc, arith, inl, inr}
 use Rattle.std.proofs.lemmas.Bool.{cases_Bool, and_parts, leb-true, le-leb, ltb-false, le-ltb}
 use Rattle.std.proofs.lemmas.Bool.Decides.{nat_tests}
 use Rattle.std.proofs.lemmas.Fmt.{decimal_digit, decimal_step_wide, decimal_by_steps_wide}
@@ -26,7 +28,8 @@ test_of : (c w high : ℕ) → 48 ≤ c → c ≤ 57 → w ≤ high → (is_digi
 test_of c w high low top fits = rw (le-leb 48 c low, le-leb c 57 top, le-leb w high fits) refl
 
 -- one more digit
-decimal_more : (c v : ℕ) → 48 ≤ c → c ≤ 57 → 0 < v → 10 * v + (c - 48) < 10 ^ 64 → decimal (10 * v + (c - 48)) ≡ decimal v ++ c ∷ []
+decimal_more : (c v : ℕ) → 48 ≤ c → c ≤ 57 → 0 < v → 10 * v + (c - 48) < 10 ^ 64 →
+    decimal (10 * v + (c - 48)) ≡ decimal v ++ c ∷ []
 decimal_more c v low top pos wide =
     let w : ℕ = 10 * v + (c - 48) in
     let front : w / 10 ≡ v = omega arith in
@@ -34,7 +37,8 @@ decimal_more c v low top pos wide =
     decimal_step_wide w (omega arith) wide ∙ rw (front, last) refl
 
 -- the digits behind those of v make the decimal of the number
-pub value_reads : (high v : ℕ) (cs : List ℕ) (n : ℕ) → 0 < v → high < 10 ^ 64 → value_within high v cs ≡ Some n → decimal n ≡ decimal v ++ cs
+pub value_reads : (high v : ℕ) (cs : List ℕ) (n : ℕ) → 0 < v → high < 10 ^ 64 →
+    value_within high v cs ≡ Some n → decimal n ≡ decimal v ++ cs
 unfolding value_within
 value_reads high v [] n pos wide e = ap decimal (sym (same_Some _ _ e)) ∙ sym (append-nil (decimal v))
 value_reads high v (c ∷ cs) n pos wide e = elim (cases_Bool (is_digit c && nat_le (10 * v + (c - 48)) high)) [
@@ -44,7 +48,8 @@ value_reads high v (c ∷ cs) n pos wide e = elim (cases_Bool (is_digit c && nat
       let top = s.top in
       let fits = s.fits in
       let rest = value_reads high (10 * v + (c - 48)) cs n (omega arith) wide (rw good at e) in
-      rest ∙ ap (λ (t : List ℕ). t ++ cs) (decimal_more c v low top pos (omega arith)) ∙ append_assoc (decimal v) (c ∷ []) cs
+      rest ∙ ap (λ (t : List ℕ). t ++ cs) (decimal_more c v low top pos (omega arith))
+      ∙ append_assoc (decimal v) (c ∷ []) cs
   | inr bad ↦ absurd (let none : None ≡ Some n = rw bad at e in cc)
 ]
 
@@ -61,13 +66,18 @@ value_no_feed high v (c ∷ cs) n e = elim (cases_Bool (is_digit c && nat_le (10
 ]
 
 -- reading on
-value_within-append : (high v : ℕ) (cs ds : List ℕ) → value_within high v (cs ++ ds) ≡ option_and_then (λ w. value_within high w ds) (value_within high v cs)
+value_within-append : (high v : ℕ) (cs ds : List ℕ) → value_within high v (cs ++ ds)
+    ≡ option_and_then (λ w. value_within high w ds) (value_within high v cs)
 unfolding value_within
 value_within-append high v [] ds = refl
-value_within-append high v (c ∷ cs) ds = go (is_digit c && nat_le (10 * v + (c - 48)) high) (value_within-append high (10 * v + (c - 48)) cs ds)
+value_within-append high v (c ∷ cs) ds =
+    go (is_digit c && nat_le (10 * v + (c - 48)) high) (value_within-append high (10 * v + (c - 48)) cs ds)
   where
-    go : (b : Bool) → value_within high (10 * v + (c - 48)) (cs ++ ds) ≡ option_and_then (λ w. value_within high w ds) (value_within high (10 * v + (c - 48)) cs)
-        → cond b (value_within high (10 * v + (c - 48)) (cs ++ ds)) None ≡ option_and_then (λ w. value_within high w ds) (cond b (value_within high (10 * v + (c - 48)) cs) None)
+    go : (b : Bool) → value_within high (10 * v + (c - 48)) (cs ++ ds)
+        ≡ option_and_then (λ w. value_within high w ds) (value_within high (10 * v + (c - 48)) cs)
+        → cond b (value_within high (10 * v + (c - 48)) (cs ++ ds)) None
+        ≡ option_and_then (λ w. value_within high w ds)
+        (cond b (value_within high (10 * v + (c - 48)) cs) None)
     go true e = e
     go false e = refl
 
@@ -78,11 +88,15 @@ ReadsAgain high n ds = n ≤ high → value_within high 0 ds ≡ Some n
 pub value_again : (high n : ℕ) → n < 10 ^ 64 → n ≤ high → value_within high 0 (decimal n) ≡ Some n
 unfolding value_within
 value_again high n wide = decimal_by_steps_wide (ReadsAgain high)
-    (λ m one fits. rw (test_of (48 + m) (10 * 0 + (48 + m - 48)) high (omega arith) (omega arith) (omega arith)) (ap (λ (x : ℕ). Some x) (omega arith)))
+    (λ m one fits. rw (test_of (48 + m) (10 * 0 + (48 + m - 48)) high (omega arith) (omega arith)
+    (omega arith)) (ap (λ (x : ℕ). Some x) (omega arith)))
     (λ m ds ten before fits.
     let front : value_within high 0 ds ≡ Some (m / 10) = before (omega arith) in
     let is : 10 * (m / 10) + (48 + m % 10 - 48) ≡ m = omega arith in
-    value_within-append high 0 ds ((48 + m % 10) ∷ []) ∙ rw (front, is) (rw (test_of (48 + m % 10) m high (omega arith) (omega arith) fits) refl))
+    value_within-append high 0 ds ((48 + m % 10) ∷ []) ∙ rw (
+      front,
+      is,
+    ) (rw (test_of (48 + m % 10) m high (omega arith) (omega arith) fits) refl))
     n wide
 
 -- ---- numbers with no leading zero
@@ -121,7 +135,8 @@ value_small high v (c ∷ cs) n h e = elim (cases_Bool (is_digit c && nat_le (10
   | inr bad ↦ absurd (let none : None ≡ Some n = rw bad at e in cc)
 ]
 
-first_digit : (high c : ℕ) (cs : List ℕ) (n : ℕ) → value_within high 0 (c ∷ cs) ≡ Some n → (48 ≤ c) × (c ≤ 57) × (value_within high (c - 48) cs ≡ Some n)
+first_digit : (high c : ℕ) (cs : List ℕ) (n : ℕ) → value_within high 0 (c ∷ cs) ≡ Some n →
+    (48 ≤ c) × (c ≤ 57) × (value_within high (c - 48) cs ≡ Some n)
 unfolding value_within
 first_digit high c cs n e = elim (cases_Bool (is_digit c && nat_le (10 * 0 + (c - 48)) high)) [
   | inl good ↦
@@ -131,7 +146,8 @@ first_digit high c cs n e = elim (cases_Bool (is_digit c && nat_le (10 * 0 + (c 
   | inr bad ↦ absurd (let none : None ≡ Some n = rw bad at e in cc)
 ]
 
-digits_are : (high : ℕ) (ds : List ℕ) (n : ℕ) → high < 10 ^ 64 → has_no_leading_zero ds ≡ true → value_within high 0 ds ≡ Some n → ds ≡ decimal n
+digits_are : (high : ℕ) (ds : List ℕ) (n : ℕ) → high < 10 ^ 64 → has_no_leading_zero ds ≡ true →
+    value_within high 0 ds ≡ Some n → ds ≡ decimal n
 unfolding value_within
 digits_are high [] n wide canonical e = absurd cc
 digits_are high (c ∷ []) n wide canonical e =
@@ -158,18 +174,26 @@ at_least low n m false t e =
     let above : low ≤ m = ltb-false _ _ t in
     (same, rw (← same) above)
 
-checked : (low high : ℕ) (ds : List ℕ) (n : ℕ) (o : Option ℕ) → value_within high 0 ds ≡ o → option_and_then (λ v. cond (nat_lt v low) None (Some v)) o ≡ Some n → (value_within high 0 ds ≡ Some n) × (low ≤ n)
+checked : (low high : ℕ) (ds : List ℕ) (n : ℕ) (o : Option ℕ) → value_within high 0 ds ≡ o →
+    option_and_then (λ v. cond (nat_lt v low) None (Some v)) o ≡ Some n →
+    (value_within high 0 ds ≡ Some n) × (low ≤ n)
 checked low high ds n None h e = absurd cc
 checked low high ds n (Some m) h e =
     let last = at_least low n m (nat_lt m low) refl e in
     (h ∙ ap (λ (x : ℕ). Some x) last.0, last.1)
 
-pub number_takes : (low high : ℕ) (ds : List ℕ) (n : ℕ) → high < 10 ^ 64 → number_within low high ds ≡ Some n → IsNumber low high ds n
+pub number_takes : (low high : ℕ) (ds : List ℕ) (n : ℕ) → high < 10 ^ 64 → number_within low high ds ≡ Some n →
+    IsNumber low high ds n
 unfolding number_within
 number_takes low high ds n wide e = elim (cases_Bool (has_no_leading_zero ds)) [
   | inl canonical ↦
       let read = checked low high ds n (value_within high 0 ds) refl (rw canonical at e) in
-      record { digits = digits_are high ds n wide canonical read.0; above = read.1; below = value_small high 0 ds n (omega arith) read.0 }
+      record {
+        digits = digits_are high ds n wide canonical read.0;
+        above = read.1;
+        below =
+            value_small high 0 ds n (omega arith) read.0;
+      }
   | inr bad ↦ absurd (let none : None ≡ Some n = rw bad at e in cc)
 ]
 

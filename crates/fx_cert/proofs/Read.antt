@@ -11,7 +11,8 @@ use Rattle.fx_cert.proofs.Again.{text_is_read}
 use Rattle.fx_cert.proofs.NumberLaws.{IsNumber, number_again, number_takes}
 use Rattle.fx_cert.proofs.Sound.{text_stands}
 
-pub is_found : (bytes : List ℕ) (r : Result Certificate CertFault) → Gives is_memory (λ c. c) r (certificate_in (lines_of bytes)) → IfOk r (λ c. IsTextOf bytes c)
+pub is_found : (bytes : List ℕ) (r : Result Certificate CertFault) →
+    Gives is_memory (λ c. c) r (certificate_in (lines_of bytes)) → IfOk r (λ c. IsTextOf bytes c)
 is_found bytes (Ok c) h = text_stands bytes c h
 is_found bytes (Err e) h = tt
 
@@ -22,14 +23,19 @@ same_ok : (c d : Certificate) (r : Result Certificate CertFault) → r ≡ Ok c 
 same_ok c d r h k = cc
 
 pub one_certificate : OneCertificate
-one_certificate bytes c d h k = same_ok c d (certificate_in (lines_of bytes)) (text_is_read bytes c h) (text_is_read bytes d k)
+one_certificate bytes c d h k =
+    same_ok c d (certificate_in (lines_of bytes)) (text_is_read bytes c h) (text_is_read bytes d k)
 
 -- ---- numbers
 
-number_of : (low high n : ℕ) (digits : List ℕ) → IsNumber low high digits n → (digits ≡ decimal n) × (low ≤ n) × (n ≤ high)
+number_of : (low high n : ℕ) (digits : List ℕ) → IsNumber low high digits n →
+    (digits ≡ decimal n) × (low ≤ n) × (n ≤ high)
 number_of low high n digits h = (h.digits, h.above, h.below)
 
 pub number_law : NumberLaw
 number_law low high n digits most =
-    let wide : high < 10 ^ 64 = omega arith in
-    (λ e. number_of low high n digits (number_takes low high digits n wide e), λ h. rw h.0 (number_again low high n wide h.1 h.2))
+    let wide : high < 10 ^ 64 = omega arith in (
+      λ e. number_of low high n digits (number_takes low high digits n wide e),
+      λ h.
+          rw h.0 (number_again low high n wide h.1 h.2),
+    )

@@ -3,7 +3,8 @@ use Rattle.std.specs.Prelude.{◌≡◌, ℕ, ◌≤◌, ℤ, pos, ◌≤ℤ◌,
 use Rattle.std.specs.Fmt.{decimal, signed_decimal}
 use Rattle.std.specs.List.{flat_map}
 use Rattle.fx_msb.specs.Widths.{IsBound}
-use Rattle.fx_cert.specs.declared.limits.TheConstants.{LEAST_LENGTH, GREATEST_LENGTH, GREATEST_ROWS, GREATEST_OUTPUTS, GREATEST_ERROR}
+use Rattle.fx_cert.specs.declared.limits.TheConstants.{LEAST_LENGTH, GREATEST_LENGTH, GREATEST_ROWS}
+use Rattle.fx_cert.specs.declared.limits.TheConstants.{GREATEST_OUTPUTS, GREATEST_ERROR}
 
 -- how many moments a block has, the bound of each row, and the error of each output at the scale 2 ^ -64
 pub record Certificate : Type 0 where

@@ -1,13 +1,15 @@
--- The first fault of a text, with no reader: what is wanted of each line, and the fault of a line that is another. The counts
--- of rows and of outputs are those that the text itself names. Lines are numbered from 1.
-use Rattle.std.specs.Prelude.{ℕ, zero, suc, ◌+◌, not, List, [], ◌∷◌, ◌++◌, codes, Option, Some, None, option_and_then, Result, Ok, Err, if◌then◌else◌}
+-- The first fault of a text, with no reader: what is wanted of each line, and the fault of a line that is another. The
+-- counts of rows and of outputs are those that the text itself names. Lines are numbered from 1.
+use Rattle.std.specs.Prelude.{ℕ, zero, suc, ◌+◌, not, List, [], ◌∷◌, ◌++◌, codes, Option, Some, None}
+use Rattle.std.specs.Prelude.{option_and_then, Result, Ok, Err, if◌then◌else◌}
 use Rattle.std.specs.Option.{option_or, unwrap_or}
 use Rattle.std.specs.Str.{bytes_eq}
 use Rattle.fx_math.specs.Faults.{fault_if}
 use Rattle.fx_msb.specs.declared.widths.TheConstants.{GREATEST_BOUND}
 use Rattle.fx_cert.specs.declared.fault.CertFault.{CertFault}
 use Rattle.fx_cert.specs.declared.fault.CertFault.TheVariants.{Version, Line, Count, AfterEnd}
-use Rattle.fx_cert.specs.declared.limits.TheConstants.{LEAST_LENGTH, GREATEST_LENGTH, GREATEST_ROWS, GREATEST_OUTPUTS, GREATEST_ERROR}
+use Rattle.fx_cert.specs.declared.limits.TheConstants.{LEAST_LENGTH, GREATEST_LENGTH, GREATEST_ROWS}
+use Rattle.fx_cert.specs.declared.limits.TheConstants.{GREATEST_OUTPUTS, GREATEST_ERROR}
 use Rattle.fx_cert.specs.Certificate.{first_line}
 use Rattle.fx_cert.specs.Lines.{TextLine}
 use Rattle.fx_cert.specs.Reading.{begins, behind, number_behind, number_within}
@@ -33,22 +35,26 @@ rows_fault n text = fault_in (number_behind n (codes "rows ") 1 GREATEST_ROWS te
 -- where the bound of row i is wanted: there may be too few
 abbrev pub bound_fault : ℕ → ℕ → ℕ → List ℕ → Option CertFault
 bound_fault rows i n text =
-    fault_if (begins (codes "outputs ") text) (Count n i rows) (fault_in (number_behind n (codes "X ") 0 GREATEST_BOUND text))
+    fault_if (begins (codes "outputs ") text) (Count n i rows)
+    (fault_in (number_behind n (codes "X ") 0 GREATEST_BOUND text))
 
 -- where the count of outputs is wanted: there may be one bound too many
 abbrev pub outputs_fault : ℕ → ℕ → List ℕ → Option CertFault
 outputs_fault rows n text =
-    fault_if (begins (codes "X ") text) (Count n (rows + 1) rows) (fault_in (number_behind n (codes "outputs ") 1 GREATEST_OUTPUTS text))
+    fault_if (begins (codes "X ") text) (Count n (rows + 1) rows)
+    (fault_in (number_behind n (codes "outputs ") 1 GREATEST_OUTPUTS text))
 
 -- where the error of output o is wanted: there may be too few
 abbrev pub error_fault : ℕ → ℕ → ℕ → List ℕ → Option CertFault
 error_fault outputs o n text =
-    fault_if (bytes_eq text (codes "end")) (Count n o outputs) (fault_in (number_behind n (codes "E ") 0 GREATEST_ERROR text))
+    fault_if (bytes_eq text (codes "end")) (Count n o outputs)
+    (fault_in (number_behind n (codes "E ") 0 GREATEST_ERROR text))
 
 -- where the last line is wanted: there may be one error too many
 abbrev pub end_fault : ℕ → ℕ → List ℕ → Option CertFault
 end_fault outputs n text =
-    fault_if (begins (codes "E ") text) (Count n (outputs + 1) outputs) (fault_if (not (bytes_eq text (codes "end"))) (Line n) None)
+    fault_if (begins (codes "E ") text) (Count n (outputs + 1) outputs)
+    (fault_if (not (bytes_eq text (codes "end"))) (Line n) None)
 
 -- ---- all lines
 
@@ -61,7 +67,8 @@ each_wanted want (suc k) i = want i ∷ each_wanted want k (i + 1)
 abbrev pub wanted : ℕ → ℕ → List (ℕ → List ℕ → Option CertFault)
 wanted rows outputs =
     length_fault ∷ rows_fault
-    ∷ (each_wanted (bound_fault rows) rows 0 ++ outputs_fault rows ∷ (each_wanted (error_fault outputs) outputs 0 ++ end_fault outputs ∷ []))
+    ∷ (each_wanted (bound_fault rows) rows 0 ++ outputs_fault rows ∷
+    (each_wanted (error_fault outputs) outputs 0 ++ end_fault outputs ∷ []))
 
 -- the first fault from line n on
 unfoldable pub fault_from : ℕ → List (ℕ → List ℕ → Option CertFault) → List TextLine → Option CertFault

@@ -29,4 +29,5 @@ JoinedLaw = (lines : List TextLine) → AreLines lines → lines_of (joined line
 
 -- a number is read exactly from its decimal, in its range
 abbrev pub NumberLaw : Type 0
-NumberLaw = (low high n : ℕ) (digits : List ℕ) → high ≤ GREATEST_ERROR → (number_within low high digits ≡ Some n) ↔ ((digits ≡ decimal n) × (low ≤ n) × (n ≤ high))
+NumberLaw = (low high n : ℕ) (digits : List ℕ) → high ≤ GREATEST_ERROR →
+    (number_within low high digits ≡ Some n) ↔ ((digits ≡ decimal n) × (low ≤ n) × (n ≤ high))

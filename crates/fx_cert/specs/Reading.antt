@@ -1,13 +1,16 @@
--- What the lines of a text say: a certificate, or the first fault. Lines are numbered from 1; at one line the faults come in
--- the order in which they stand here.
-use Rattle.std.specs.Prelude.{ℕ, zero, suc, ◌+◌, ◌*◌, ◌-◌, ◌==◌, ◌&&◌, Bool, true, false, not, nat_lt, nat_le, nat_eq, ℤ, pos, List, [], ◌∷◌, length, drop, codes, Option, Some, None, option_and_then, Result, Ok, Err, if◌then◌else◌}
+-- What the lines of a text say: a certificate, or the first fault. Lines are numbered from 1; at one line the faults
+-- come in the order in which they stand here.
+use Rattle.std.specs.Prelude.{ℕ, zero, suc, ◌+◌, ◌*◌, ◌-◌, ◌==◌, ◌&&◌, Bool, true, false, not, nat_lt, nat_le}
+use Rattle.std.specs.Prelude.{nat_eq, ℤ, pos, List, [], ◌∷◌, length, drop, codes, Option, Some, None}
+use Rattle.std.specs.Prelude.{option_and_then, Result, Ok, Err, if◌then◌else◌}
 use Rattle.std.specs.List.{starts_with}
 use Rattle.std.specs.Str.{bytes_eq}
 use Rattle.fx_math.specs.Faults.{◌>>=◌, or_fault, unless}
 use Rattle.fx_msb.specs.declared.widths.TheConstants.{GREATEST_BOUND}
 use Rattle.fx_cert.specs.declared.fault.CertFault.{CertFault}
 use Rattle.fx_cert.specs.declared.fault.CertFault.TheVariants.{Version, Line, Number, Count, AfterEnd, NoMemory}
-use Rattle.fx_cert.specs.declared.limits.TheConstants.{LEAST_LENGTH, GREATEST_LENGTH, GREATEST_ROWS, GREATEST_OUTPUTS, GREATEST_ERROR}
+use Rattle.fx_cert.specs.declared.limits.TheConstants.{LEAST_LENGTH, GREATEST_LENGTH, GREATEST_ROWS}
+use Rattle.fx_cert.specs.declared.limits.TheConstants.{GREATEST_OUTPUTS, GREATEST_ERROR}
 use Rattle.fx_cert.specs.Certificate.{Certificate, first_line}
 use Rattle.fx_cert.specs.Lines.{TextLine, are_none}
 
@@ -111,7 +114,8 @@ end_at rows outputs lines = do
   unless AfterEnd (are_none line.1)
 
 -- the numbers of so many lines, from number i on
-unfoldable pub each_at : (ℕ → List TextLine → Result (ℤ × List TextLine) CertFault) → ℕ → ℕ → List TextLine → Result (List ℤ × List TextLine) CertFault
+unfoldable pub each_at : (ℕ → List TextLine → Result (ℤ × List TextLine) CertFault) → ℕ → ℕ → List TextLine →
+    Result (List ℤ × List TextLine) CertFault
 each_at one zero i lines = Ok ([], lines)
 each_at one (suc k) i lines = do
   first ← one i lines

@@ -4,7 +4,14 @@ ghost use Rattle.std.specs.Prelude.{◌≡◌, ◌≤◌, ◌<◌, ◌^◌, IfOk
 ghost use Rattle.fx_math.specs.Answers.{Gives};
 ghost use Rattle.fx_msb.specs.declared.widths.TheConstants.{GREATEST_BOUND};
 ghost use Rattle.fx_cert.specs.Laws.{NumberLaw};
-ghost use Rattle.fx_cert.specs.Reading.{behind, has_no_leading_zero, is_memory, number_behind, number_within, value_within};
+ghost use Rattle.fx_cert.specs.Reading.{
+  behind,
+  has_no_leading_zero,
+  is_memory,
+  number_behind,
+  number_within,
+  value_within,
+};
 
 use crate::fault::CertFault;
 use crate::limits::GREATEST_ERROR;

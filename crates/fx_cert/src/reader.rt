@@ -7,7 +7,20 @@ ghost use Rattle.fx_cert.specs.Certificate.{Certificate, IsTextOf};
 ghost use Rattle.fx_cert.specs.FirstFault.{first_fault, passes};
 ghost use Rattle.fx_cert.specs.Laws.{CertificateLaw, FirstFaultLaw, OneCertificate};
 ghost use Rattle.fx_cert.specs.Lines.{lines_of};
-ghost use Rattle.fx_cert.specs.Reading.{behind_head, bound_at, bounds_in, certificate_in, each_at, end_at, error_at, errors_in, is_memory, length_in, numbered_at, outputs_at};
+ghost use Rattle.fx_cert.specs.Reading.{
+  behind_head,
+  bound_at,
+  bounds_in,
+  certificate_in,
+  each_at,
+  end_at,
+  error_at,
+  errors_in,
+  is_memory,
+  length_in,
+  numbered_at,
+  outputs_at,
+};
 
 use crate::cert::{Cert, certificate_with};
 use crate::fault::CertFault;
@@ -48,7 +61,8 @@ fn numbered_at<'a>(
     high: u128,
 ) -> Result<(u128, &'a [u8]), CertFault>
     requires { high ≤ GREATEST_ERROR }
-    ensures gives { Gives is_memory (λ p. (p.0, lines_of p.1.now)) result (numbered_at line word.now low high (lines_of bytes.now)) }
+    ensures gives { Gives is_memory (λ p. (p.0, lines_of p.1.now)) result
+        (numbered_at line word.now low high (lines_of bytes.now)) }
     ensures within { IfOk result (λ p. (low ≤ p.0) × (p.0 ≤ high)) }
 {
     let (text, rest) = ended_line(bytes, line)?;
@@ -82,7 +96,8 @@ fn signed_bound(number: u128) -> i64
 // The bounds of so many rows, and what follows them.
 fn bounds_at(alloc: Global, bytes: &[u8], rows: u32) -> Result<(Vec<i64>, &[u8]), CertFault>
     requires { rows ≤ GREATEST_ROWS }
-    ensures gives { Gives is_memory (λ p. (p.0.items, lines_of p.1.now)) result (each_at (bound_at rows) rows 0 (lines_of bytes.now)) }
+    ensures gives { Gives is_memory (λ p. (p.0.items, lines_of p.1.now)) result
+        (each_at (bound_at rows) rows 0 (lines_of bytes.now)) }
     ensures count { IfOk result (λ p. length p.0.items ≡ rows) }
 {
     let mut bounds = Vec::new(alloc);
@@ -116,7 +131,8 @@ fn error_at(bytes: &[u8], rows: u32, outputs: u32, o: u32) -> Result<(i128, &[u8
     requires some { o < outputs }
     requires few { outputs ≤ GREATEST_OUTPUTS }
     requires rows { rows ≤ GREATEST_ROWS }
-    ensures gives { Gives is_memory (λ p. (p.0, lines_of p.1.now)) result (error_at rows outputs o (lines_of bytes.now)) }
+    ensures gives { Gives is_memory (λ p. (p.0, lines_of p.1.now)) result
+        (error_at rows outputs o (lines_of bytes.now)) }
     ensures fits { IfOk result (λ p. FitsSigned w128 p.0) }
 {
     let line = rows + o + 5;
@@ -144,7 +160,8 @@ fn errors_at(
 ) -> Result<(Vec<i128>, &[u8]), CertFault>
     requires few { outputs ≤ GREATEST_OUTPUTS }
     requires rows { rows ≤ GREATEST_ROWS }
-    ensures { Gives is_memory (λ p. (p.0.items, lines_of p.1.now)) result (each_at (error_at rows outputs) outputs 0 (lines_of bytes.now)) }
+    ensures { Gives is_memory (λ p. (p.0.items, lines_of p.1.now)) result
+        (each_at (error_at rows outputs) outputs 0 (lines_of bytes.now)) }
 {
     let mut errors = Vec::new(alloc);
     let mut rest = bytes;

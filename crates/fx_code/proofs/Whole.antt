@@ -14,16 +14,24 @@ RowReads count row = All (λ (t : CodeTerm). OldIsThere count t.from) row.terms
 -- of rows and of what contracts see of them
 map_back : (count : ℕ) (rows : List ProgramRow) → All (RowReads count) (map row_of rows) → All (RowReadsFit count) rows
 unfolding RowReads
-map_back count rows h k r below = subst (RowReads count) (get_or-map row_of rows k r (row_of r) below) (h k (row_of r) (rw length-map below))
+map_back count rows h k r below =
+    subst (RowReads count) (get_or-map row_of rows k r (row_of r) below) (h k (row_of r) (rw length-map below))
 
-pub whole_from : (a : Inside) (p : Code) (n : ℕ) (rows : List ProgramRow) → code_of a ≡ p → 0 < length a.outputs.items → n ≡ length a.rows.items → rows ≡ a.rows.items → All (RowReadsFit n) rows → IsWhole p
+pub whole_from : (a : Inside) (p : Code) (n : ℕ) (rows : List ProgramRow) → code_of a ≡ p →
+    0 < length a.outputs.items → n ≡ length a.rows.items → rows ≡ a.rows.items → All (RowReadsFit n) rows →
+    IsWhole p
 unfolding RowReads
 whole_from a p n rows same output count is reads =
     let e : n ≡ length (map row_of a.rows.items) = rw length-map count in
     let here : All (RowReadsFit (length (map row_of a.rows.items))) a.rows.items = rw (← e, ← is) reads in
-    subst IsWhole same (record { reads = All-map (RowReads (length (map row_of a.rows.items))) row_of a.rows.items here; output = output })
+    subst IsWhole same (record {
+      reads =
+          All-map (RowReads (length (map row_of a.rows.items))) row_of a.rows.items here;
+      output = output;
+    })
 
-pub reads_from : (a : Inside) (p : Code) (n : ℕ) (rows : List ProgramRow) → code_of a ≡ p → n ≡ length a.rows.items → rows ≡ a.rows.items → IsWhole p → All (RowReadsFit n) rows
+pub reads_from : (a : Inside) (p : Code) (n : ℕ) (rows : List ProgramRow) → code_of a ≡ p →
+    n ≡ length a.rows.items → rows ≡ a.rows.items → IsWhole p → All (RowReadsFit n) rows
 unfolding RowReads
 reads_from a p n rows same count is whole =
     let w : IsWhole (code_of a) = subst IsWhole (sym same) whole in

@@ -5,7 +5,8 @@ use Rattle.fx_math.specs.Words.{WidthFits, is_accumulator}
 use Rattle.fx_eqs.specs.declared.limits.TheConstants.{PORTS}
 use Rattle.fx_code.specs.Code.{Row, Code, row_at, weight}
 use Rattle.fx_code.specs.Limits.{same_source, term_count}
-use Rattle.fx_code.specs.declared.limits.TheConstants.{CODE_ROWS, CODE_TERMS, LONGEST_SHIFT, COEFFICIENT_BITS, PRODUCT_BITS}
+use Rattle.fx_code.specs.declared.limits.TheConstants.{CODE_ROWS, CODE_TERMS, LONGEST_SHIFT, COEFFICIENT_BITS}
+use Rattle.fx_code.specs.declared.limits.TheConstants.{PRODUCT_BITS}
 use Rattle.fx_code.specs.declared.term.CodeTerm.{CodeTerm}
 use Rattle.fx_code.specs.declared.term.Read.{Read}
 use Rattle.fx_code.specs.declared.term.Read.TheVariants.{Now, Old, In}
@@ -31,8 +32,8 @@ SourceFits n inputs (Now i) = i < n
 SourceFits n inputs (Old i) = i < CODE_ROWS
 SourceFits n inputs (In j) = j < inputs
 
--- what row n reads: earlier rows of this moment, rows of the moment before that a program may have, inputs that are there; each
--- source at most once
+-- what row n reads: earlier rows of this moment, rows of the moment before that a program may have, inputs that are
+-- there; each source at most once
 pub record ReadsFit (n inputs : ℕ) (row : Row) : Type 0 where
   pub sources : All (λ (t : CodeTerm). SourceFits n inputs t.from) row.terms
   pub once : IsDistinct (λ (e t : CodeTerm). same_source e.from t.from) row.terms

@@ -15,7 +15,13 @@ abbrev pub RowReadsFit : ℕ → ProgramRow → Type 0
 RowReadsFit count r = All (λ (t : CodeTerm). OldIsThere count t.from) r.terms.items
 
 abbrev pub code_of : Inside → Code
-code_of p = record { accumulator = p.accumulator; inputs = p.inputs.items; rows = map row_of p.rows.items; outputs = p.outputs.items }
+code_of p = record {
+  accumulator = p.accumulator;
+  inputs = p.inputs.items;
+  rows =
+      map row_of p.rows.items;
+  outputs = p.outputs.items;
+}
 
 -- the limits, and the count of terms
 pub record IsKept (p : Inside) : Type 0 where

@@ -23,4 +23,5 @@ JointDenominator =
 
 -- so the common denominator of the equations serves
 abbrev pub JointCommon : Type 0
-JointCommon = (n : ℕ) (p : Code) (eqs : Equations) → CodeFits p → IsDenominator (joint_net n p eqs) (common eqs * 2 ^ LONGEST_SHIFT)
+JointCommon = (n : ℕ) (p : Code) (eqs : Equations) → CodeFits p →
+    IsDenominator (joint_net n p eqs) (common eqs * 2 ^ LONGEST_SHIFT)

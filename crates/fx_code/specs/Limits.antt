@@ -1,5 +1,6 @@
 -- The first fault of each part that is to be added to a program.
-use Rattle.std.specs.Prelude.{ℕ, ◌+◌, ◌-◌, ◌^◌, min, nat_lt, nat_le, ◌==◌, pos, unsigned_abs, Bool, true, false, not, ◌||◌, List, [], ◌∷◌, ◌++◌, length, sum_by, Option, None}
+use Rattle.std.specs.Prelude.{ℕ, ◌+◌, ◌-◌, ◌^◌, min, nat_lt, nat_le, ◌==◌, pos, unsigned_abs, Bool, true, false}
+use Rattle.std.specs.Prelude.{not, ◌||◌, List, [], ◌∷◌, ◌++◌, length, sum_by, Option, None}
 use Rattle.std.specs.Option.{option_or}
 use Rattle.std.specs.List.{list_any}
 use Rattle.fx_math.specs.Faults.{fault_if}
@@ -7,11 +8,14 @@ use Rattle.fx_math.specs.Words.{is_accumulator}
 use Rattle.fx_math.specs.declared.words.TheConstants.{LEAST_WIDTH, GREATEST_WIDTH}
 use Rattle.fx_eqs.specs.declared.limits.TheConstants.{PORTS}
 use Rattle.fx_code.specs.Code.{Row, Code, weight}
-use Rattle.fx_code.specs.declared.limits.TheConstants.{CODE_ROWS, CODE_TERMS, LONGEST_SHIFT, COEFFICIENT_BITS, PRODUCT_BITS}
+use Rattle.fx_code.specs.declared.limits.TheConstants.{CODE_ROWS, CODE_TERMS, LONGEST_SHIFT, COEFFICIENT_BITS}
+use Rattle.fx_code.specs.declared.limits.TheConstants.{PRODUCT_BITS}
 use Rattle.fx_code.specs.declared.term.CodeTerm.{CodeTerm}
 use Rattle.fx_code.specs.declared.term.Read.{Read}
 use Rattle.fx_code.specs.declared.term.Read.TheVariants.{Now, Old, In}
-use Rattle.fx_code.specs.declared.fault.LimitOf.TheVariants.{Accumulator, Inputs, Rows, Outputs, InputWidth, Width, Shift, Left, Coefficient, Product, Terms, OutputRow}
+use Rattle.fx_code.specs.declared.fault.LimitOf.TheVariants.{Accumulator, Inputs, Rows, Outputs, InputWidth}
+use Rattle.fx_code.specs.declared.fault.LimitOf.TheVariants.{Width, Shift, Left, Coefficient, Product, Terms}
+use Rattle.fx_code.specs.declared.fault.LimitOf.TheVariants.{OutputRow}
 use Rattle.fx_code.specs.declared.fault.ProgramFault.{ProgramFault}
 use Rattle.fx_code.specs.declared.fault.ProgramFault.TheVariants.{Limit, Order, Twice, NoMemory}
 
@@ -42,7 +46,8 @@ same_source _ _ = false
 
 -- of the source of a term in row n, of a program with this many inputs
 abbrev pub source_fault : ℕ → ℕ → Read → Option ProgramFault → Option ProgramFault
-source_fault n inputs (Now i) rest = fault_if (nat_le CODE_ROWS i) (Limit Rows (pos i)) (fault_if (nat_le n i) (Order n) rest)
+source_fault n inputs (Now i) rest =
+    fault_if (nat_le CODE_ROWS i) (Limit Rows (pos i)) (fault_if (nat_le n i) (Order n) rest)
 source_fault n inputs (Old i) rest = fault_if (nat_le CODE_ROWS i) (Limit Rows (pos i)) rest
 source_fault n inputs (In j) rest = fault_if (nat_le inputs j) (Limit Inputs (pos j)) rest
 
@@ -53,12 +58,14 @@ term_fault n inputs shift earlier t =
     fault_if (nat_le (2 ^ COEFFICIENT_BITS) (unsigned_abs t.coef)) (Limit Coefficient t.coef) (
     source_fault n inputs t.from (
     fault_if (list_any (λ e. same_source e.from t.from) earlier) (Twice n) (
-    fault_if (nat_le (2 ^ COEFFICIENT_BITS) (unsigned_abs (weight t)) || nat_le (2 ^ (PRODUCT_BITS + shift)) (unsigned_abs (weight t))) (Limit Product (weight t)) None))))
+    fault_if (nat_le (2 ^ COEFFICIENT_BITS) (unsigned_abs (weight t))
+    || nat_le (2 ^ (PRODUCT_BITS + shift)) (unsigned_abs (weight t))) (Limit Product (weight t)) None))))
 
 -- the first, term by term
 abbrev pub terms_fault : ℕ → ℕ → ℕ → List CodeTerm → List CodeTerm → Option ProgramFault
 terms_fault n inputs shift earlier [] = None
-terms_fault n inputs shift earlier (t ∷ ts) = option_or (term_fault n inputs shift earlier t) (terms_fault n inputs shift (earlier ++ t ∷ []) ts)
+terms_fault n inputs shift earlier (t ∷ ts) =
+    option_or (term_fault n inputs shift earlier t) (terms_fault n inputs shift (earlier ++ t ∷ []) ts)
 
 -- how many terms there are over all rows
 abbrev pub term_count : List Row → ℕ

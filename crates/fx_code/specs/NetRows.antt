@@ -43,7 +43,11 @@ put_classes put at count class i = cond (is_within at count i) (put (i - at)) (c
 
 -- the net with these rows from a place on, each with its class; its other rows stay
 abbrev pub put_bare_rows : List BareRow → ℕ → Net → Net
-put_bare_rows rows at net = record (put_rows (map net_row rows) at net) { class = put_classes (classes_of rows) at (length rows) net.class }
+put_bare_rows rows at net =
+    record (put_rows (map net_row rows) at net) {
+      class =
+          put_classes (classes_of rows) at (length rows) net.class;
+    }
 
 -- the net has these rows from a place on, each with its class
 pub record HoldsBareRows (net : Net) (at : ℕ) (bare : List BareRow) : Type 0 where

@@ -23,10 +23,12 @@ terms_sum now old input (t ∷ ts) = weight t *ℤ word_read now old input t.fro
 abbrev pub whole_sum : Row → (ℕ → ℤ) → (ℕ → ℤ) → (ℕ → ℤ) → ℤ
 whole_sum row now old input = pos (constant_of (bare row)) +ℤ terms_sum now old input row.terms
 
--- the word of row i: the accumulator is read as two's complement and floored by the shift, and its low bits are kept, read as signed
+-- the word of row i: the accumulator is read as two's complement and floored by the shift, and its low bits are kept,
+-- read as signed
 abbrev pub word_step : Code → (ℕ → ℕ → ℤ) → Step
 word_step p u k i now old =
-    wrap (row_at p i).width (floor_div (wrap p.accumulator (whole_sum (row_at p i) now old (u k))) (2 ^ (row_at p i).shift))
+    wrap (row_at p i).width (floor_div (wrap p.accumulator (whole_sum (row_at p i) now old (u k)))
+    (2 ^ (row_at p i).shift))
 
 -- the words of a program on an input: moment, then row
 abbrev pub words : Code → (ℕ → ℕ → ℤ) → ℕ → ℕ → ℤ

@@ -1,4 +1,16 @@
-ghost use Rattle.fx_code.specs.Laws.{BareRowsStand, CodeStands, EarlierInputs, ExactWords, FittingOutputs, FittingRows, FittingStarts, FlooredRowsRun, OutputsInOrder, WordsAreTheirStep, WordsRun};
+ghost use Rattle.fx_code.specs.Laws.{
+  BareRowsStand,
+  CodeStands,
+  EarlierInputs,
+  ExactWords,
+  FittingOutputs,
+  FittingRows,
+  FittingStarts,
+  FlooredRowsRun,
+  OutputsInOrder,
+  WordsAreTheirStep,
+  WordsRun,
+};
 ghost use Rattle.fx_code.specs.Joint.{JointCommon, JointDenominator};
 
 use crate::program::{Program, programs_fit};
@@ -48,8 +60,9 @@ pub fn code_stands()
     rows_stand();
 }
 
-/// A law with nothing to run: each denominator of a system's coefficients, shifted by the longest shift, is one of the net
-/// that has the rows of a program and, behind them, the expanded rows of the system. So the system's common one serves.
+/// A law with nothing to run: each denominator of a system's coefficients, shifted by the longest shift, is one of the
+/// net that has the rows of a program and, behind them, the expanded rows of the system. So the system's common one
+/// serves.
 pub fn joint_nets_have_a_denominator()
     ensures each { JointDenominator }
     ensures common { JointCommon }
@@ -58,10 +71,10 @@ pub fn joint_nets_have_a_denominator()
     denominators_stay();
 }
 
-/// A law with nothing to run: in each net that holds the rows of a whole program, the words are a perturbed run of these
-/// rows, over each common denominator of the net: what an exact row with a right shift stores is off by at most half a
-/// step, and what one without stores is just what it reads. So it is with any numbers that are floored by the shift as
-/// words are, without wrapping. The other rows of the net may have any values.
+/// A law with nothing to run: in each net that holds the rows of a whole program, the words are a perturbed run of
+/// these rows, over each common denominator of the net: what an exact row with a right shift stores is off by at most
+/// half a step, and what one without stores is just what it reads. So it is with any numbers that are floored by the
+/// shift as words are, without wrapping. The other rows of the net may have any values.
 pub fn words_are_a_run(program: &Program)
     ensures numbers { FlooredRowsRun program.now }
     ensures words { WordsRun program.now }

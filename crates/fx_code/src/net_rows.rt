@@ -17,7 +17,8 @@ fn put_term<const N: usize>(net: &mut Net<N>, at: usize, row: usize, shift: u8, 
     requires shift { shift ≤ LONGEST_SHIFT }
     requires fits { TermFits shift term.now }
     requires read { ReadFits N at row (net_read term.now.from) }
-    ensures { net_of net.new ≡ put_term at row (net_term shift term.now).coef (net_term shift term.now).from (net_of net.old) }
+    ensures { net_of net.new
+        ≡ put_term at row (net_term shift term.now).coef (net_term shift term.now).from (net_of net.old) }
 {
     let Some(coefficient) = Frac::new(term.weight() as i64, Den::Two(shift)) else {
         unreachable!();
@@ -58,7 +59,11 @@ impl Program {
     // Puts the class of each row.
     fn put_classes<const N: usize>(&self, net: &mut Net<N>, at: usize)
         requires room { at + length self.now.rows ≤ N }
-        ensures { net_of net.new ≡ record (net_of net.old) { class = put_classes (λ r. class_of (bare (row_at self.now r))) at (length self.now.rows) (net_of net.old).class } }
+        ensures { net_of net.new ≡ record (net_of net.old) {
+          class =
+              put_classes (λ r. class_of (bare (row_at self.now r))) at (length self.now.rows)
+              (net_of net.old).class;
+        } }
     {
         for i in 0..self.rows() {
             net.set_halves(at + i, self.class(i));
@@ -66,9 +71,9 @@ impl Program {
     }
 
     /// Writes the rows of a whole program into a net, from row `at` on: what a row takes of a source is the term's
-    /// coefficient, shifted to the left, over 2 to the power of the row's right shift. A row's class is 0 where its right
-    /// shift is 0, else 1, as rounding is off by at most half a step. The rows have to fit into the net, and to be empty
-    /// there; the other rows stay.
+    /// coefficient, shifted to the left, over 2 to the power of the row's right shift. A row's class is 0 where its
+    /// right shift is 0, else 1, as rounding is off by at most half a step. The rows have to fit into the net, and to
+    /// be empty there; the other rows stay.
     pub fn put_net<const N: usize>(&self, net: &mut Net<N>, at: usize)
         requires whole { IsWhole self.now }
         requires room { at + length self.now.rows ≤ N }

@@ -1,5 +1,24 @@
 ghost use Rattle.fx_code.specs.declared.term.CodeTerm.{CodeTerm};
-ghost use Rattle.std.specs.Prelude.{map, ◌≡◌, ◌↔◌, IsTrue, ◌<◌, ◌≤◌, ◌^◌, ◌≤ℤ◌, ◌++◌, [], ◌∷◌, length, IfOk, OnOk, OnErr, pos, slice_index, All};
+ghost use Rattle.std.specs.Prelude.{
+  map,
+  ◌≡◌,
+  ◌↔◌,
+  IsTrue,
+  ◌<◌,
+  ◌≤◌,
+  ◌^◌,
+  ◌≤ℤ◌,
+  ◌++◌,
+  [],
+  ◌∷◌,
+  length,
+  IfOk,
+  OnOk,
+  OnErr,
+  pos,
+  slice_index,
+  All,
+};
 ghost use Rattle.fx_code.specs.Code.{Row, Code, row_at, bare, constant_of, OldIsThere, IsWhole};
 ghost use Rattle.fx_code.specs.Inside.{row_of, RowReadsFit};
 ghost use Rattle.fx_math.specs.Answers.{fault_told};
@@ -56,7 +75,13 @@ impl Program {
         accumulator: u8,
         input_widths: &[u8],
     ) -> Result<Program, ProgramFault>
-        ensures ok { IfOk result (λ p. p ≡ record { accumulator = accumulator; inputs = input_widths.now; rows = []; outputs = [] }) }
+        ensures ok { IfOk result (λ p. p ≡ record {
+          accumulator = accumulator;
+          inputs =
+              input_widths.now;
+          rows = [];
+          outputs = [];
+        }) }
         ensures fault { start_fault accumulator input_widths.now ≡ fault_told is_memory result }
     {
         if let Some(fault) = start_fault(accumulator, input_widths) {
@@ -101,8 +126,12 @@ impl Program {
     /// Adds a row behind the others. Its error is the first fault, and `NoMemory` only where there is none;
     /// a refused row leaves the program unchanged.
     pub fn add_row(&mut self, width: u8, shift: u8, terms: &[CodeTerm]) -> Result<(), ProgramFault>
-        ensures ok { OnOk result (self.new ≡ record self.old { rows = self.old.rows ++ record { width = width; shift = shift; terms = terms.now } ∷ [] }) }
-        ensures fault { row_fault self.old (record { width = width; shift = shift; terms = terms.now }) ≡ fault_told is_memory result }
+        ensures ok { OnOk result (self.new ≡ record self.old {
+          rows =
+              self.old.rows ++ record { width = width; shift = shift; terms = terms.now } ∷ [];
+        }) }
+        ensures fault { row_fault self.old (record { width = width; shift = shift; terms = terms.now })
+            ≡ fault_told is_memory result }
         ensures err { OnErr result (self.new ≡ self.old) }
     {
         if let Some(fault) = self.row_fault(width, shift, terms) {

@@ -1,5 +1,6 @@
 -- What a write to a cell changes.
-use Rattle.std.proofs.Common.{◌≡◌, ℕ, ◌<◌, ◌⊎◌, List, length, get_or, set, ◌∙◌, ap, inl, inr, get_or-set_same, get_or-set_other, length-set}
+use Rattle.std.proofs.Common.{◌≡◌, ℕ, ◌<◌, ◌⊎◌, List, length, get_or, set, ◌∙◌, ap, inl, inr, get_or-set_same}
+use Rattle.std.proofs.Common.{get_or-set_other, length-set}
 use Rattle.std.proofs.lemmas.Bool.{cases_eq}
 use Rattle.std.proofs.lemmas.List.{get_or_read}
 use Rattle.fx_nums.specs.Fraction.{Fraction}
@@ -20,7 +21,9 @@ cell_set cells p y h = record {
 }
 
 -- where each cell is another but for one field
-field_kept : {A : Type 0} → (f : Cell → A) (cells cells' : List Cell) (p : ℕ) (y : Cell) → IsCellSet cells cells' p y → f y ≡ f (cell_of cells p) → (x : ℕ) → f (cell_of cells' x) ≡ f (cell_of cells x)
+field_kept : {A : Type 0} → (f : Cell → A) (cells cells' : List Cell) (p : ℕ) (y : Cell) →
+    IsCellSet cells cells' p y → f y ≡ f (cell_of cells p) → (x : ℕ) →
+    f (cell_of cells' x) ≡ f (cell_of cells x)
 field_kept f cells cells' p y w e x = by_place (cases_eq x p)
   where
     by_place : (x ≡ p) ⊎ (x ≡ p → ⊥) → f (cell_of cells' x) ≡ f (cell_of cells x)
@@ -37,10 +40,12 @@ pub record IsRightSet (cells cells' : List Cell) (q v : ℕ) : Type 0 where
   pub down : (x : ℕ) → down_of cells' x ≡ down_of cells x
   pub coef : (x : ℕ) → coef_of cells' x ≡ coef_of cells x
 
-pub right_set : (cells : List Cell) (q v : ℕ) (y : Cell) → q < length cells → y ≡ get_or cells q y → IsRightSet cells (set cells q (record y { right = v })) q v
+pub right_set : (cells : List Cell) (q v : ℕ) (y : Cell) → q < length cells → y ≡ get_or cells q y →
+    IsRightSet cells (set cells q (record y { right = v })) q v
 unfolding coef_of
 right_set cells q v y h read =
-    let w : IsCellSet cells (set cells q (record y { right = v })) q (record y { right = v }) = cell_set cells q (record y { right = v }) h in
+    let w : IsCellSet cells (set cells q (record y { right = v })) q (record y { right = v }) =
+    cell_set cells q (record y { right = v }) h in
     let e : y ≡ cell_of cells q = get_or_read cells q y h read no_cell in record {
       long = w.long;
       here = ap (λ (c : Cell). c.right) w.here;
@@ -61,10 +66,12 @@ pub record IsDownSet (cells cells' : List Cell) (q v : ℕ) : Type 0 where
   pub right : (x : ℕ) → right_of cells' x ≡ right_of cells x
   pub coef : (x : ℕ) → coef_of cells' x ≡ coef_of cells x
 
-pub down_set : (cells : List Cell) (q v : ℕ) (y : Cell) → q < length cells → y ≡ get_or cells q y → IsDownSet cells (set cells q (record y { down = v })) q v
+pub down_set : (cells : List Cell) (q v : ℕ) (y : Cell) → q < length cells → y ≡ get_or cells q y →
+    IsDownSet cells (set cells q (record y { down = v })) q v
 unfolding coef_of
 down_set cells q v y h read =
-    let w : IsCellSet cells (set cells q (record y { down = v })) q (record y { down = v }) = cell_set cells q (record y { down = v }) h in
+    let w : IsCellSet cells (set cells q (record y { down = v })) q (record y { down = v }) =
+    cell_set cells q (record y { down = v }) h in
     let e : y ≡ cell_of cells q = get_or_read cells q y h read no_cell in record {
       long = w.long;
       here = ap (λ (c : Cell). c.down) w.here;
@@ -85,10 +92,12 @@ pub record IsCoefSet (cells cells' : List Cell) (p : ℕ) (v : Fraction) : Type 
   pub right : (x : ℕ) → right_of cells' x ≡ right_of cells x
   pub down : (x : ℕ) → down_of cells' x ≡ down_of cells x
 
-pub coef_set : (cells : List Cell) (p : ℕ) (v : Fraction) (y : Cell) → p < length cells → y ≡ get_or cells p y → IsCoefSet cells (set cells p (record y { coef = v })) p v
+pub coef_set : (cells : List Cell) (p : ℕ) (v : Fraction) (y : Cell) → p < length cells →
+    y ≡ get_or cells p y → IsCoefSet cells (set cells p (record y { coef = v })) p v
 unfolding coef_of
 coef_set cells p v y h read =
-    let w : IsCellSet cells (set cells p (record y { coef = v })) p (record y { coef = v }) = cell_set cells p (record y { coef = v }) h in
+    let w : IsCellSet cells (set cells p (record y { coef = v })) p (record y { coef = v }) =
+    cell_set cells p (record y { coef = v }) h in
     let e : y ≡ cell_of cells p = get_or_read cells p y h read no_cell in record {
       long = w.long;
       here = ap (λ (c : Cell). c.coef) w.here;
@@ -110,10 +119,12 @@ pub record IsFreed (cells cells' : List Cell) (p free rank : ℕ) : Type 0 where
   pub column : (x : ℕ) → column_of cells' x ≡ column_of cells x
   pub coef : (x : ℕ) → coef_of cells' x ≡ coef_of cells x
 
-pub freed : (cells : List Cell) (p free rank : ℕ) (y : Cell) → p < length cells → y ≡ get_or cells p y → IsFreed cells (set cells p (record y { right = free; down = rank })) p free rank
+pub freed : (cells : List Cell) (p free rank : ℕ) (y : Cell) → p < length cells → y ≡ get_or cells p y →
+    IsFreed cells (set cells p (record y { right = free; down = rank })) p free rank
 unfolding coef_of
 freed cells p free rank y h read =
-    let w : IsCellSet cells (set cells p (record y { right = free; down = rank })) p (record y { right = free; down = rank }) = cell_set cells p (record y { right = free; down = rank }) h in
+    let w : IsCellSet cells (set cells p (record y { right = free; down = rank })) p
+    (record y { right = free; down = rank }) = cell_set cells p (record y { right = free; down = rank }) h in
     let e : y ≡ cell_of cells p = get_or_read cells p y h read no_cell in record {
       long = w.long;
       right_here = ap (λ (c : Cell). c.right) w.here;

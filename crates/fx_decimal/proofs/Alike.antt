@@ -1,5 +1,7 @@
 -- Each part of a numeral is read alike up to a byte, whatever follows this byte.
-use Rattle.std.proofs.Common.{◌≡◌, ◌⊎◌, ◌≤◌, ◌==◌, ◌||◌, not, ◌∙◌, ℕ, Bool, true, false, cond, List, [], ◌∷◌, ◌++◌, length, length-append, append_assoc, Option, Some, None, Result, Ok, Err, refl, sym, ap, subst, arith, lit≤, inl, inr}
+use Rattle.std.proofs.Common.{◌≡◌, ◌⊎◌, ◌≤◌, ◌==◌, ◌||◌, not, ◌∙◌, ℕ, Bool, true, false, cond, List, [], ◌∷◌}
+use Rattle.std.proofs.Common.{◌++◌, length, length-append, append_assoc, Option, Some, None, Result, Ok, Err}
+use Rattle.std.proofs.Common.{refl, sym, ap, subst, arith, lit≤, inl, inr}
 use Rattle.std.proofs.lemmas.Bool.{cases_Bool}
 use Rattle.std.proofs.lemmas.List.{drop_at}
 use Rattle.std.proofs.lemmas.List.Sums.{take_while-cons}
@@ -7,7 +9,8 @@ use Rattle.std.specs.Char.{is_ascii_digit}
 use Rattle.std.specs.List.{AllByRecursion}
 use Rattle.std.specs.Prelude.{IsErr, is_err}
 use Rattle.fx_nums.specs.Whole.{begins_with_digit}
-use Rattle.fx_decimal.specs.Faults.{after_in, digits_in, exponent_digits, exponent_in, front_digits, is_end, sign_in, stop}
+use Rattle.fx_decimal.specs.Faults.{after_in, digits_in, exponent_digits, exponent_in, front_digits, is_end}
+use Rattle.fx_decimal.specs.Faults.{sign_in, stop}
 use Rattle.fx_nums.specs.Signs.{Bare, IsDigit, Minus, Plus, Sign, sign_text}
 use Rattle.fx_decimal.specs.Numeral.{Exponent, IsExponent, after_text, exponent_text}
 use Rattle.fx_decimal.specs.declared.fault.DecimalFault.{DecimalFault}
@@ -23,11 +26,13 @@ front_stops (c ∷ cs) = elim (cases_Bool (is_ascii_digit c)) [
   | inr other ↦ rw (take_while-cons is_ascii_digit c cs, other) other
 ]
 
-pub begins_alike : (u : List ℕ) (c : ℕ) (cs more : List ℕ) → begins_with_digit (u ++ (c ∷ cs)) ≡ false → begins_with_digit (u ++ (c ∷ more)) ≡ false
+pub begins_alike : (u : List ℕ) (c : ℕ) (cs more : List ℕ) → begins_with_digit (u ++ (c ∷ cs)) ≡ false →
+    begins_with_digit (u ++ (c ∷ more)) ≡ false
 begins_alike [] c cs more h = h
 begins_alike (d ∷ ds) c cs more h = h
 
-pub digits_alike : (text u : List ℕ) (c : ℕ) (cs more : List ℕ) → (digits_in text).1 ≡ u ++ (c ∷ cs) → digits_in ((digits_in text).0 ++ (u ++ (c ∷ more))) ≡ ((digits_in text).0, u ++ (c ∷ more))
+pub digits_alike : (text u : List ℕ) (c : ℕ) (cs more : List ℕ) → (digits_in text).1 ≡ u ++ (c ∷ cs) →
+    digits_in ((digits_in text).0 ++ (u ++ (c ∷ more))) ≡ ((digits_in text).0, u ++ (c ∷ more))
 digits_alike text u c cs more h =
     let rest = u ++ (c ∷ more) in
     let stops = begins_alike u c cs more (rw h at (front_stops text)) in
@@ -36,18 +41,22 @@ digits_alike text u c cs more h =
 
 pub bare_head : (c : ℕ) (cs more : List ℕ) → sign_in (c ∷ cs) ≡ (Bare, c ∷ cs) → sign_in (c ∷ more) ≡ (Bare, c ∷ more)
 bare_head c cs more h = elim (cases_Bool (c == 43)) [
-  | inl plus ↦ absurd (let e : ◌≡◌ {A = Sign × List ℕ} (Plus, cs) (Bare, c ∷ cs) = rw plus at h in let d : Plus ≡ Bare = ap (λ (x : Sign × List ℕ). x.0) e in cc)
+  | inl plus ↦ absurd (let e : ◌≡◌ {A = Sign × List ℕ} (Plus, cs) (Bare, c ∷ cs) =
+      rw plus at h in let d : Plus ≡ Bare = ap (λ (x : Sign × List ℕ). x.0) e in cc)
   | inr other ↦ elim (cases_Bool (c == 45)) [
-    | inl minus ↦ absurd (let e : ◌≡◌ {A = Sign × List ℕ} (Minus, cs) (Bare, c ∷ cs) = rw (other, minus) at h in let d : Minus ≡ Bare = ap (λ (x : Sign × List ℕ). x.0) e in cc)
+    | inl minus ↦ absurd (let e : ◌≡◌ {A = Sign × List ℕ} (Minus, cs) (Bare, c ∷ cs) =
+        rw (other, minus) at h in let d : Minus ≡ Bare = ap (λ (x : Sign × List ℕ). x.0) e in cc)
     | inr neither ↦ rw (other, neither) refl
   ]
 ]
 
-pub bare_alike : (u : List ℕ) (c : ℕ) (cs more : List ℕ) → sign_in (u ++ (c ∷ cs)) ≡ (Bare, u ++ (c ∷ cs)) → sign_in (u ++ (c ∷ more)) ≡ (Bare, u ++ (c ∷ more))
+pub bare_alike : (u : List ℕ) (c : ℕ) (cs more : List ℕ) → sign_in (u ++ (c ∷ cs)) ≡ (Bare, u ++ (c ∷ cs)) →
+    sign_in (u ++ (c ∷ more)) ≡ (Bare, u ++ (c ∷ more))
 bare_alike [] c cs more h = bare_head c cs more h
 bare_alike (d ∷ ds) c cs more h = bare_head d (ds ++ (c ∷ cs)) (ds ++ (c ∷ more)) h
 
-pub sign_alike : (text u : List ℕ) (c : ℕ) (cs more : List ℕ) → (sign_in text).1 ≡ u ++ (c ∷ cs) → sign_in (sign_text (sign_in text).0 ++ (u ++ (c ∷ more))) ≡ ((sign_in text).0, u ++ (c ∷ more))
+pub sign_alike : (text u : List ℕ) (c : ℕ) (cs more : List ℕ) → (sign_in text).1 ≡ u ++ (c ∷ cs) →
+    sign_in (sign_text (sign_in text).0 ++ (u ++ (c ∷ more))) ≡ ((sign_in text).0, u ++ (c ∷ more))
 sign_alike [] u c cs more h = bare_alike u c cs more (rw (sym h) refl)
 sign_alike (d ∷ ds) u c cs more h = elim (cases_Bool (d == 43)) [
   | inl plus ↦ rw plus refl
@@ -63,14 +72,17 @@ sign_alike (d ∷ ds) u c cs more h = elim (cases_Bool (d == 43)) [
 pub no_point_head : (c : ℕ) (cs more : List ℕ) → (c == 46) ≡ false → after_in (c ∷ more) ≡ (None, c ∷ more)
 no_point_head c cs more h = rw h refl
 
-pub no_point_alike : (u : List ℕ) (c d : ℕ) (cs ds more : List ℕ) → (d == 46) ≡ false → d ∷ ds ≡ u ++ (c ∷ cs) → after_in (u ++ (c ∷ more)) ≡ (None, u ++ (c ∷ more))
+pub no_point_alike : (u : List ℕ) (c d : ℕ) (cs ds more : List ℕ) → (d == 46) ≡ false →
+    d ∷ ds ≡ u ++ (c ∷ cs) → after_in (u ++ (c ∷ more)) ≡ (None, u ++ (c ∷ more))
 no_point_alike [] c d cs ds more h same = let e : d ≡ c = cc in no_point_head c cs more (rw e at h)
 no_point_alike (x ∷ xs) c d cs ds more h same = let e : d ≡ x = cc in no_point_head x cs (xs ++ (c ∷ more)) (rw e at h)
 
-pub point_alike : (text u : List ℕ) (c : ℕ) (cs more : List ℕ) → (digits_in text).1 ≡ u ++ (c ∷ cs) → after_in (46 ∷ ((digits_in text).0 ++ (u ++ (c ∷ more)))) ≡ (Some (digits_in text).0, u ++ (c ∷ more))
+pub point_alike : (text u : List ℕ) (c : ℕ) (cs more : List ℕ) → (digits_in text).1 ≡ u ++ (c ∷ cs) →
+    after_in (46 ∷ ((digits_in text).0 ++ (u ++ (c ∷ more)))) ≡ (Some (digits_in text).0, u ++ (c ∷ more))
 point_alike text u c cs more h = ap (λ (r : List ℕ × List ℕ). (Some r.0, r.1)) (digits_alike text u c cs more h)
 
-pub after_alike : (text u : List ℕ) (c : ℕ) (cs more : List ℕ) → (after_in text).1 ≡ u ++ (c ∷ cs) → after_in (after_text (after_in text).0 ++ (u ++ (c ∷ more))) ≡ ((after_in text).0, u ++ (c ∷ more))
+pub after_alike : (text u : List ℕ) (c : ℕ) (cs more : List ℕ) → (after_in text).1 ≡ u ++ (c ∷ cs) →
+    after_in (after_text (after_in text).0 ++ (u ++ (c ∷ more))) ≡ ((after_in text).0, u ++ (c ∷ more))
 after_alike [] [] c cs more h = absurd cc
 after_alike [] (x ∷ xs) c cs more h = absurd cc
 after_alike (d ∷ ds) u c cs more h = elim (cases_Bool (d == 46)) [
@@ -108,7 +120,9 @@ pub record ExponentStops (n : ℕ) (text : List ℕ) (f : DecimalFault) : Type 0
   pub goes_on : (front ≡ []) ⊎ ((e : Exponent) × (IsExponent (Some e)) × (front ++ (48 ∷ []) ≡ exponent_text (Some e)))
 
 -- the exponent is a fault too where other bytes follow the first that it stopped at
-pub exponent_err_again : (c : ℕ) (cs : List ℕ) (x : ℕ) (xs more : List ℕ) → letter c ≡ true → (digits_in (sign_in cs).1).1 ≡ x ∷ xs → (m : ℕ) → IsErr (exponent_in m ((c ∷ (sign_text (sign_in cs).0 ++ (digits_in (sign_in cs).1).0)) ++ (x ∷ more)))
+pub exponent_err_again : (c : ℕ) (cs : List ℕ) (x : ℕ) (xs more : List ℕ) → letter c ≡ true →
+    (digits_in (sign_in cs).1).1 ≡ x ∷ xs → (m : ℕ) →
+    IsErr (exponent_in m ((c ∷ (sign_text (sign_in cs).0 ++ (digits_in (sign_in cs).1).0)) ++ (x ∷ more)))
 unfolding exponent_in
 exponent_err_again c cs x xs more is h m =
     let s = sign_in cs in
@@ -117,9 +131,11 @@ exponent_err_again c cs x xs more is h m =
     let behind : s.1 ≡ read.0 ++ (x ∷ xs) = digits_stand s.1 ∙ ap (λ (t : List ℕ). read.0 ++ t) h in
     let sign = sign_alike cs read.0 x xs more behind in
     let up = c == 69 in
-    let same = ap (λ (p : Sign × List ℕ). exponent_digits m up p.0 (digits_in p.1)) sign ∙ ap (λ (q : List ℕ × List ℕ). exponent_digits m up s.0 q) digits in
+    let same = ap (λ (p : Sign × List ℕ). exponent_digits m up p.0 (digits_in p.1)) sign
+    ∙ ap (λ (q : List ℕ × List ℕ). exponent_digits m up s.0 q) digits in
     let wrong : IsErr (exponent_digits m up s.0 (read.0, x ∷ more)) = rw (or_true (is_end read.0)) refl in
-    rw (is, append_assoc (sign_text s.0) read.0 (x ∷ more)) (ap (λ (r : Result (Option Exponent) DecimalFault). is_err r) same ∙ wrong)
+    rw (is, append_assoc (sign_text s.0) read.0 (x ∷ more))
+    (ap (λ (r : Result (Option Exponent) DecimalFault). is_err r) same ∙ wrong)
 
 pub zero_digit : IsDigit 48
 zero_digit = (lit≤ tt, lit≤ tt)
@@ -130,7 +146,8 @@ some_behind a = rw (length-append a (48 ∷ [])) (omega arith)
 pub zero_behind : (a : List ℕ) → AllByRecursion IsDigit a → AllByRecursion IsDigit (a ++ (48 ∷ []))
 zero_behind a h = all_on a (48 ∷ []) h (zero_digit, tt)
 
-pub exponent_stops_behind : (n c : ℕ) (cs : List ℕ) (f : DecimalFault) → letter c ≡ true → exponent_digits n (c == 69) (sign_in cs).0 (digits_in (sign_in cs).1) ≡ Err f → ExponentStops n (c ∷ cs) f
+pub exponent_stops_behind : (n c : ℕ) (cs : List ℕ) (f : DecimalFault) → letter c ≡ true →
+    exponent_digits n (c == 69) (sign_in cs).0 (digits_in (sign_in cs).1) ≡ Err f → ExponentStops n (c ∷ cs) f
 exponent_stops_behind n c cs f is h =
     let s = sign_in cs in
     let read = digits_in s.1 in
@@ -139,10 +156,17 @@ exponent_stops_behind n c cs f is h =
     record {
       front = c ∷ (sign_text s.0 ++ read.0);
       rest = read.1;
-      stands = ap (λ (t : List ℕ). c ∷ t) (sign_stands cs ∙ ap (λ (t : List ℕ). sign_text s.0 ++ t) (digits_stand s.1) ∙ sym (append_assoc (sign_text s.0) read.0 read.1));
+      stands = ap (λ (t : List ℕ). c ∷ t) (sign_stands cs
+          ∙ ap (λ (t : List ℕ). sign_text s.0 ++ t) (digits_stand s.1)
+          ∙ sym (append_assoc (sign_text s.0) read.0 read.1));
       fault = if_err (is_end read.0 || not (is_end read.1)) _ f _ h;
       again = λ x xs more same m. exponent_err_again c cs x xs more is same m;
-      goes_on = inr (e, record { some = some_behind read.0; all = zero_behind read.0 (front_all s.1) }, ap (λ (x : ℕ). x ∷ ((sign_text s.0 ++ read.0) ++ (48 ∷ []))) (letter_is c is) ∙ ap (λ (t : List ℕ). cond (c == 69) 69 101 ∷ t) (append_assoc (sign_text s.0) read.0 (48 ∷ [])));
+      goes_on = inr (
+        e,
+        record { some = some_behind read.0; all = zero_behind read.0 (front_all s.1) },
+        ap (λ (x : ℕ). x ∷ ((sign_text s.0 ++ read.0) ++ (48 ∷ []))) (letter_is c is)
+            ∙ ap (λ (t : List ℕ). cond (c == 69) 69 101 ∷ t) (append_assoc (sign_text s.0) read.0 (48 ∷ [])),
+      );
     }
 
 pub no_exponent : (c : ℕ) (more : List ℕ) → letter c ≡ false → (m : ℕ) → IsErr (exponent_in m (c ∷ more))

@@ -1,5 +1,7 @@
 -- What is kept of digits is their number without the zeros at its end.
-use Rattle.std.proofs.Common.{◌≡◌, ◌≢◌, ◌⊎◌, ◌≤◌, ◌<◌, ◌+◌, ◌-◌, ◌*◌, ◌/◌, ◌%◌, ◌^◌, ◌==◌, ◌∙◌, ℕ, zero, suc, ℤ, pos, ◌+ℤ◌, ◌-ℤ◌, Bool, false, min, List, [], ◌∷◌, ◌++◌, length, refl, ap, arith, inl, inr, add-one}
+use Rattle.std.proofs.Common.{◌≡◌, ◌≢◌, ◌⊎◌, ◌≤◌, ◌<◌, ◌+◌, ◌-◌, ◌*◌, ◌/◌, ◌%◌, ◌^◌, ◌==◌, ◌∙◌, ℕ, zero, suc, ℤ}
+use Rattle.std.proofs.Common.{pos, ◌+ℤ◌, ◌-ℤ◌, Bool, false, min, List, [], ◌∷◌, ◌++◌, length, refl, ap, arith}
+use Rattle.std.proofs.Common.{inl, inr, add-one}
 use Rattle.std.proofs.lemmas.Bool.{cases_Bool, eqb-true}
 use Rattle.std.proofs.lemmas.Bool.Decides.{nat_tests}
 use Rattle.std.proofs.lemmas.Grind.{pow_more}
@@ -29,11 +31,19 @@ one_more : (d z k : ℕ) → (d % 10 ≢ 0) ⊎ ((d ≡ 0) × (z ≡ k)) → (d 
 one_more d z k (inl odd) = inl odd
 one_more d z k (inr p) = inr (p.0, ap (λ (x : ℕ). x + 1) p.1)
 
-zero_stands : (k n : ℕ) (s : Kept) → Stands k n s → Stands (k + 1) (10 * n + (48 - 48)) (record { number = s.number; zeros = s.zeros + 1 })
+zero_stands : (k n : ℕ) (s : Kept) → Stands k n s →
+    Stands (k + 1) (10 * n + (48 - 48)) (record { number = s.number; zeros = s.zeros + 1 })
 zero_stands k n s h =
     let before = h.number in
     let times = ten_times h.digits s.zeros in
-    record { digits = h.digits; number = omega arith; last = one_more h.digits s.zeros k h.last; zeros = omega (arith, h.zeros); kept = h.kept }
+    record {
+      digits = h.digits;
+      number = omega arith;
+      last = one_more h.digits s.zeros k h.last;
+      zeros =
+          omega (arith, h.zeros);
+      kept = h.kept;
+    }
 
 grows : (d z x : ℕ) → min (min d (10 ^ 18) * 10 ^ (z + 1) + x) (10 ^ 18) ≡ min (d * 10 ^ (z + 1) + x) (10 ^ 18)
 grows d z x =
@@ -48,7 +58,12 @@ grows d z x =
           rw same (omega arith)
     ]
 
-other_stands : (k n c : ℕ) (s : Kept) → IsDigit c → c ≢ 48 → Stands k n s → Stands (k + 1) (10 * n + (c - 48)) (record { number = min (s.number * 10 ^ (s.zeros + 1) + (c - 48)) (10 ^ 18); zeros = 0 })
+other_stands : (k n c : ℕ) (s : Kept) → IsDigit c → c ≢ 48 → Stands k n s →
+    Stands (k + 1) (10 * n + (c - 48)) (record {
+      number =
+          min (s.number * 10 ^ (s.zeros + 1) + (c - 48)) (10 ^ 18);
+      zeros = 0;
+    })
 other_stands k n c s digit other h =
     let before : n ≡ h.digits * 10 ^ s.zeros = h.number in
     let times = ten_times h.digits s.zeros in
@@ -74,7 +89,8 @@ digit_stands k n c s digit h = elim (cases_Bool (c == 48)) [
       rw other (other_stands k n c s digit different h)
 ]
 
-all_stand : (k n : ℕ) (s : Kept) (cs : List ℕ) → AllByRecursion IsDigit cs → Stands k n s → Stands (k + length cs) (number_from n cs) (kept_from s cs)
+all_stand : (k n : ℕ) (s : Kept) (cs : List ℕ) → AllByRecursion IsDigit cs → Stands k n s →
+    Stands (k + length cs) (number_from n cs) (kept_from s cs)
 all_stand k n s [] all h = let same : k + 0 ≡ k = omega arith in rw same h
 all_stand k n s (c ∷ cs) all h =
     let same : k + suc (length cs) ≡ k + 1 + length cs = omega arith in
@@ -122,14 +138,17 @@ begins : Stands 0 0 (record { number = 0; zeros = 0 })
 begins = record { digits = 0; number = omega arith; last = inr (refl, refl); zeros = omega arith; kept = omega arith }
 
 pub kept_value : (negative : Bool) (ds : List ℕ) (after : ℕ) (exponent : ℤ) → AllByRecursion IsDigit ds →
-    limited negative (kept_from (record { number = 0; zeros = 0 }) ds).number ((exponent -ℤ pos after) +ℤ pos (kept_from (record { number = 0; zeros = 0 }) ds).zeros) ≡ digits_value negative ds after exponent
+    limited negative (kept_from (record { number = 0; zeros = 0 }) ds).number
+    ((exponent -ℤ pos after) +ℤ pos (kept_from (record { number = 0; zeros = 0 }) ds).zeros)
+    ≡ digits_value negative ds after exponent
 unfolding digits_value
 kept_value negative ds after exponent all =
     let none : Kept = record { number = 0; zeros = 0 } in
     let s : Kept = kept_from none ds in
     let count : 0 + length ds ≡ length ds = omega arith in
     let h : Stands (length ds) (number_from 0 ds) s = rw count at (all_stand 0 0 none ds all begins) in
-    let same : without_zeros (length ds) (number_from 0 ds) ≡ (h.digits, s.zeros) = off (length ds) (number_from 0 ds) s h in
+    let same : without_zeros (length ds) (number_from 0 ds) ≡ (h.digits, s.zeros) =
+    off (length ds) (number_from 0 ds) s h in
     rw (same, h.kept) (capped negative h.digits ((exponent -ℤ pos after) +ℤ pos s.zeros))
 
 pub kept_on : (s : Kept) (a b : List ℕ) → kept_from s (a ++ b) ≡ kept_from (kept_from s a) b

@@ -1,5 +1,7 @@
 -- A numeral is read exactly where its text stands.
-use Rattle.std.proofs.Common.{◌≡◌, ◌≤◌, ◌==◌, ◌&&◌, ◌||◌, not, ◌∙◌, ℕ, Bool, true, false, cond, List, [], ◌∷◌, ◌++◌, length, drop, take-append-drop, Option, Some, None, Result, Ok, Err, refl, sym, ap, subst, arith, inl, inr}
+use Rattle.std.proofs.Common.{◌≡◌, ◌≤◌, ◌==◌, ◌&&◌, ◌||◌, not, ◌∙◌, ℕ, Bool, true, false, cond, List, [], ◌∷◌}
+use Rattle.std.proofs.Common.{◌++◌, length, drop, take-append-drop, Option, Some, None, Result, Ok, Err, refl}
+use Rattle.std.proofs.Common.{sym, ap, subst, arith, inl, inr}
 use Rattle.std.proofs.lemmas.Bool.{cases_Bool, le-leb, eqb-true}
 use Rattle.std.proofs.lemmas.Bool.Decides.{nat_tests}
 use Rattle.std.proofs.lemmas.List.{append-nil, drop_at}
@@ -8,9 +10,11 @@ use Rattle.std.specs.Char.{is_ascii_digit}
 use Rattle.std.specs.List.{AllByRecursion}
 use Rattle.fx_nums.specs.Fraction.{Fraction}
 use Rattle.fx_nums.specs.Whole.{begins_with_digit}
-use Rattle.fx_decimal.specs.Faults.{Means, NumeralLaw, TextLaw, after_in, and_then, digits_in, exponent_digits, exponent_in, front_digits, is_end, numeral, parts_in, sign_in}
+use Rattle.fx_decimal.specs.Faults.{Means, NumeralLaw, TextLaw, after_in, and_then, digits_in, exponent_digits}
+use Rattle.fx_decimal.specs.Faults.{exponent_in, front_digits, is_end, numeral, parts_in, sign_in}
 use Rattle.fx_nums.specs.Signs.{AreDigits, Bare, IsDigit, Minus, Plus, Sign, sign_text}
-use Rattle.fx_decimal.specs.Numeral.{Exponent, IsExponent, IsNumeral, Parts, after_digits, after_text, exponent_text, meaning, parts_text}
+use Rattle.fx_decimal.specs.Numeral.{Exponent, IsExponent, IsNumeral, Parts, after_digits, after_text}
+use Rattle.fx_decimal.specs.Numeral.{exponent_text, meaning, parts_text}
 use Rattle.fx_decimal.proofs.Digits.{front_all, front_taken}
 use Rattle.fx_decimal.proofs.KeptLaws.{all_on}
 
@@ -44,11 +48,13 @@ after_stands (c ∷ cs) = elim (cases_Bool (c == 46)) [
   | inr other ↦ rw other (record { stands = refl; all = tt })
 ]
 
-only_false : {A E : Type 0} (b : Bool) (e : E) (r : Result A E) (x : A) → cond b (Err e) r ≡ Ok x → (b ≡ false) × (r ≡ Ok x)
+only_false : {A E : Type 0} (b : Bool) (e : E) (r : Result A E) (x : A) → cond b (Err e) r ≡ Ok x →
+    (b ≡ false) × (r ≡ Ok x)
 only_false true e r x h = absurd cc
 only_false false e r x h = (refl, h)
 
-only_true : {A E : Type 0} (b : Bool) (e : E) (r : Result A E) (x : A) → cond b r (Err e) ≡ Ok x → (b ≡ true) × (r ≡ Ok x)
+only_true : {A E : Type 0} (b : Bool) (e : E) (r : Result A E) (x : A) → cond b r (Err e) ≡ Ok x →
+    (b ≡ true) × (r ≡ Ok x)
 only_true true e r x h = (refl, h)
 only_true false e r x h = absurd cc
 
@@ -76,7 +82,8 @@ letter_text : Bool → ℕ
 letter_text upper = cond upper 69 101
 
 module _ (n c : ℕ) (cs : List ℕ) (letter : c ≡ cond (c == 69) 69 101) where
-  behind_stands : (e : Option Exponent) → exponent_digits n (c == 69) (sign_in cs).0 (digits_in (sign_in cs).1) ≡ Ok e → ExponentStands (c ∷ cs) e
+  behind_stands : (e : Option Exponent) → exponent_digits n (c == 69) (sign_in cs).0 (digits_in (sign_in cs).1)
+      ≡ Ok e → ExponentStands (c ∷ cs) e
   behind_stands e h =
       let sign = sign_in cs in
       let read = digits_in sign.1 in
@@ -86,7 +93,8 @@ module _ (n c : ℕ) (cs : List ℕ) (letter : c ≡ cond (c == 69) 69 101) wher
       let digits : sign.1 ≡ read.0 = digits_stand sign.1 ∙ rw nothing (append-nil read.0) in
       subst (λ (x : Option Exponent). ExponentStands (c ∷ cs) x) (same_ok _ e same)
       (record {
-        stands = ap (λ (x : ℕ). x ∷ cs) letter ∙ ap (λ (t : List ℕ). cond (c == 69) 69 101 ∷ t) (sign_stands cs ∙ ap (λ (t : List ℕ). sign_text sign.0 ++ t) digits);
+        stands = ap (λ (x : ℕ). x ∷ cs) letter ∙ ap (λ (t : List ℕ).
+            cond (c == 69) 69 101 ∷ t) (sign_stands cs ∙ ap (λ (t : List ℕ). sign_text sign.0 ++ t) digits);
         proper = record { some = goes_on read.0 some; all = front_all sign.1 };
       })
 
@@ -98,12 +106,15 @@ letter_is c h = elim (cases_Bool (c == 69)) [
 
 exponent_stands : (n : ℕ) (text : List ℕ) (e : Option Exponent) → exponent_in n text ≡ Ok e → ExponentStands text e
 unfolding exponent_in
-exponent_stands n [] e h = subst (λ (x : Option Exponent). ExponentStands [] x) (same_ok None e h) (record { stands = refl; proper = tt })
+exponent_stands n [] e h =
+    subst (λ (x : Option Exponent). ExponentStands [] x) (same_ok None e h)
+    (record { stands = refl; proper = tt })
 exponent_stands n (c ∷ cs) e h =
     let (letter, on) = only_true _ _ _ e h in
     behind_stands n c cs (letter_is c letter) e on
 
-and_then_ok : {A B E : Type 0} (f : A → Result B E) (r : Result A E) (y : B) → and_then f r ≡ Ok y → (x : A) × (r ≡ Ok x) × (f x ≡ Ok y)
+and_then_ok : {A B E : Type 0} (f : A → Result B E) (r : Result A E) (y : B) → and_then f r ≡ Ok y →
+    (x : A) × (r ≡ Ok x) × (f x ≡ Ok y)
 and_then_ok f (Ok x) y h = (x, refl, h)
 and_then_ok f (Err e) y h = absurd cc
 
@@ -128,8 +139,18 @@ parts_stand text p h =
     let x = exponent_stands (length text) after.1 e read in
     subst (λ (q : Parts). PartsStand text q) (same_ok _ p same)
     (record {
-      stands = sign_stands text ∙ ap (λ (t : List ℕ). sign_text sign.0 ++ t) (digits_stand sign.1 ∙ ap (λ (t : List ℕ). whole.0 ++ t) (a.stands ∙ ap (λ (t : List ℕ). after_text after.0 ++ t) x.stands));
-      proper = record { digits = record { some = some_digits whole.0 (after_digits after.0) some; all = all_on whole.0 (after_digits after.0) (front_all sign.1) a.all }; exponent = x.proper };
+      stands = sign_stands text
+          ∙ ap (λ (t : List ℕ). sign_text sign.0 ++ t) (digits_stand sign.1
+          ∙ ap (λ (t : List ℕ). whole.0 ++ t) (a.stands ∙ ap (λ (t : List ℕ). after_text after.0 ++ t) x.stands));
+      proper = record {
+        digits =
+            record {
+              some = some_digits whole.0 (after_digits after.0) some;
+              all =
+                  all_on whole.0 (after_digits after.0) (front_all sign.1) a.all;
+            };
+        exponent = x.proper;
+      };
     })
 
 -- ---- what stands there is read
@@ -137,10 +158,13 @@ parts_stand text p h =
 digit_test : (c : ℕ) → IsDigit c → is_ascii_digit c ≡ true
 digit_test c h = rw (le-leb 48 c h.0, le-leb c 57 h.1) refl
 
-pub front_again : (ds rest : List ℕ) → AllByRecursion IsDigit ds → begins_with_digit rest ≡ false → front_digits (ds ++ rest) ≡ ds
+pub front_again : (ds rest : List ℕ) → AllByRecursion IsDigit ds → begins_with_digit rest ≡ false →
+    front_digits (ds ++ rest) ≡ ds
 front_again [] [] all h = refl
 front_again [] (c ∷ cs) all h = rw (take_while-cons is_ascii_digit c cs, h) refl
-front_again (c ∷ cs) rest all h = rw (take_while-cons is_ascii_digit c (cs ++ rest), digit_test c all.0) (ap (λ (t : List ℕ). c ∷ t) (front_again cs rest all.1 h))
+front_again (c ∷ cs) rest all h =
+    rw (take_while-cons is_ascii_digit c (cs ++ rest), digit_test c all.0)
+    (ap (λ (t : List ℕ). c ∷ t) (front_again cs rest all.1 h))
 
 -- a digit or a point, and no sign
 abbrev begins_plain : List ℕ → Type 0
@@ -164,11 +188,14 @@ no_digit (Some e) = elim e.upper as (λ b. is_ascii_digit (cond b 69 101) ≡ fa
 
 no_point : (e : Option Exponent) → after_in (exponent_text e) ≡ (None, exponent_text e)
 no_point None = refl
-no_point (Some e) = elim e.upper as (λ b. after_in (cond b 69 101 ∷ (sign_text e.sign ++ e.digits)) ≡ (None, cond b 69 101 ∷ (sign_text e.sign ++ e.digits))) [ true ↦ refl | false ↦ refl ]
+no_point (Some e) = elim e.upper as (λ b. after_in (cond b 69 101 ∷ (sign_text e.sign ++ e.digits))
+    ≡ (None, cond b 69 101 ∷ (sign_text e.sign ++ e.digits))) [ true ↦ refl | false ↦ refl ]
 
-after_again : (a : Option (List ℕ)) (e : Option Exponent) → AllByRecursion IsDigit (after_digits a) → after_in (after_text a ++ exponent_text e) ≡ (a, exponent_text e)
+after_again : (a : Option (List ℕ)) (e : Option Exponent) → AllByRecursion IsDigit (after_digits a) →
+    after_in (after_text a ++ exponent_text e) ≡ (a, exponent_text e)
 after_again None e all = no_point e
-after_again (Some ds) e all = rw (front_again ds (exponent_text e) all (no_digit e), drop_at ds (exponent_text e) (length ds) refl) refl
+after_again (Some ds) e all =
+    rw (front_again ds (exponent_text e) all (no_digit e), drop_at ds (exponent_text e) (length ds) refl) refl
 
 digits_plain : (ds rest : List ℕ) → AreDigits ds → begins_plain (ds ++ rest)
 digits_plain [] rest h = absurd (omega (arith, h.some))
@@ -178,7 +205,9 @@ not_end : (ds : List ℕ) → 1 ≤ length ds → is_end ds ≡ false
 not_end [] h = absurd (omega arith)
 not_end (c ∷ cs) h = refl
 
-behind_again : (n : ℕ) (upper : Bool) (s : Sign) (ds : List ℕ) → AreDigits ds → exponent_digits n upper (sign_in (sign_text s ++ ds)).0 (digits_in (sign_in (sign_text s ++ ds)).1) ≡ Ok (Some (record { upper = upper; sign = s; digits = ds }))
+behind_again : (n : ℕ) (upper : Bool) (s : Sign) (ds : List ℕ) → AreDigits ds →
+    exponent_digits n upper (sign_in (sign_text s ++ ds)).0 (digits_in (sign_in (sign_text s ++ ds)).1)
+    ≡ Ok (Some (record { upper = upper; sign = s; digits = ds }))
 behind_again n upper s ds h =
     let plain : begins_plain ds = rw append-nil at (digits_plain ds [] h) in
     let front : front_digits ds ≡ ds = rw append-nil at (front_again ds [] h.all refl) in
@@ -189,7 +218,8 @@ exponent_again : (n : ℕ) (e : Option Exponent) → IsExponent e → exponent_i
 unfolding exponent_in
 exponent_again n None h = refl
 exponent_again n (Some e) h =
-    elim e.upper as (λ b. exponent_in n (cond b 69 101 ∷ (sign_text e.sign ++ e.digits)) ≡ Ok (Some (record { upper = b; sign = e.sign; digits = e.digits }))) [
+    elim e.upper as (λ b. exponent_in n (cond b 69 101 ∷ (sign_text e.sign ++ e.digits))
+    ≡ Ok (Some (record { upper = b; sign = e.sign; digits = e.digits }))) [
       | true ↦ behind_again n true e.sign e.digits h
       | false ↦ behind_again n false e.sign e.digits h
     ]
@@ -198,7 +228,8 @@ front_part : (a b : List ℕ) → AllByRecursion IsDigit (a ++ b) → AllByRecur
 front_part [] b h = (tt, h)
 front_part (c ∷ cs) b h = let more = front_part cs b h.1 in ((h.0, more.0), more.1)
 
-whole_plain : (whole : List ℕ) (a : Option (List ℕ)) (more : List ℕ) → AreDigits (whole ++ after_digits a) → begins_plain (whole ++ (after_text a ++ more))
+whole_plain : (whole : List ℕ) (a : Option (List ℕ)) (more : List ℕ) → AreDigits (whole ++ after_digits a) →
+    begins_plain (whole ++ (after_text a ++ more))
 whole_plain [] None more h = absurd (omega (arith, h.some))
 whole_plain [] (Some ds) more h = refl
 whole_plain (c ∷ cs) a more h = let all = h.all in digit_plain c (cs ++ (after_text a ++ more)) all.0
@@ -221,7 +252,14 @@ parts_again p h =
     let whole = front_again p.whole more all.0 (point_next p.after p.exponent) in
     let rest : drop (length p.whole) (p.whole ++ more) ≡ more = drop_at p.whole more (length p.whole) refl in
     let after = after_again p.after p.exponent all.1 in
-    rw (sign, whole, rest, after, not_both p.whole (after_digits p.after) digits.some, exponent_again (length (parts_text p)) p.exponent h.exponent) refl
+    rw (
+      sign,
+      whole,
+      rest,
+      after,
+      not_both p.whole (after_digits p.after) digits.some,
+      exponent_again (length (parts_text p)) p.exponent h.exponent,
+    ) refl
 
 -- ---- the laws
 

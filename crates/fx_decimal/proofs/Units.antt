@@ -1,5 +1,7 @@
 -- A number in units of its last place, rounded up and down.
-use Rattle.std.proofs.Common.{◌≡◌, ◌<◌, ◌+◌, ◌*◌, ◌/◌, ◌%◌, ◌^◌, ◌∙◌, ℕ, zero, suc, ℤ, pos, negsuc, neg_ℤ, ◌*ℤ◌, Bool, true, false, ◌&&◌, not, ◌==◌, unsigned_abs, ◌<ℤ◌, ◌≤ℤ◌, List, refl, sym, ap, arith}
+use Rattle.std.proofs.Common.{◌≡◌, ◌<◌, ◌+◌, ◌*◌, ◌/◌, ◌%◌, ◌^◌, ◌∙◌, ℕ, zero, suc, ℤ, pos, negsuc, neg_ℤ, ◌*ℤ◌}
+use Rattle.std.proofs.Common.{Bool, true, false, ◌&&◌, not, ◌==◌, unsigned_abs, ◌<ℤ◌, ◌≤ℤ◌, List, refl, sym, ap}
+use Rattle.std.proofs.Common.{arith}
 use Rattle.std.proofs.Math.Nat.{mul-add-div_right, mul-add-mod_self_right}
 use Rattle.std.specs.Int.{div_ceil}
 use Rattle.std.proofs.lemmas.Bool.Decides.{nat_tests}
@@ -67,7 +69,8 @@ RoundedText negative up m k = let n = units up m k in written (negative && not (
 pub up_below : (v : ℤ) (k : ℕ) → v <ℤ pos 0 → RoundedText true false (unsigned_abs v) k ≡ up_text v k
 unfolding units up_text
 up_below (pos a) k below = absurd (omega (arith, ints))
-up_below (negsuc a) k below = rw (neg_times a (10 ^ k), neg_twice (suc a * 10 ^ k)) (signed_text (suc a * 10 ^ k / 2 ^ 64) k)
+up_below (negsuc a) k below =
+    rw (neg_times a (10 ^ k), neg_twice (suc a * 10 ^ k)) (signed_text (suc a * 10 ^ k / 2 ^ 64) k)
 
 pub up_above : (v : ℤ) (k : ℕ) → pos 0 ≤ℤ v → RoundedText false true (unsigned_abs v) k ≡ up_text v k
 unfolding units up_text

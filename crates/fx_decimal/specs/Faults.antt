@@ -1,5 +1,6 @@
 -- How a text is read from left to right, to its parts or to its first fault.
-use Rattle.std.specs.Prelude.{◌≡◌, ◌↔◌, ℕ, ◌-◌, ◌==◌, ◌&&◌, ◌||◌, not, Bool, true, false, if◌then◌else◌, List, [], ◌∷◌, length, drop, min, ℤ, Option, Some, None, Result, Ok, Err}
+use Rattle.std.specs.Prelude.{◌≡◌, ◌↔◌, ℕ, ◌-◌, ◌==◌, ◌&&◌, ◌||◌, not, Bool, true, false, if◌then◌else◌, List}
+use Rattle.std.specs.Prelude.{[], ◌∷◌, length, drop, min, ℤ, Option, Some, None, Result, Ok, Err}
 use Rattle.std.specs.Char.{is_ascii_digit}
 use Rattle.std.specs.List.{take_while}
 use Rattle.fx_nums.specs.Fraction.{Fraction}
@@ -38,16 +39,22 @@ after_in (c ∷ cs) = if c == point_mark then (Some (digits_in cs).0, (digits_in
 
 -- the digits of an exponent, to the end of the text
 abbrev pub exponent_digits : ℕ → Bool → Sign → List ℕ × List ℕ → Result (Option Exponent) DecimalFault
-exponent_digits n upper sign read = if is_end read.0 || not (is_end read.1) then Err (stop n read.1) else Ok (Some (record { upper = upper; sign = sign; digits = read.0 }))
+exponent_digits n upper sign read =
+    if is_end read.0 || not (is_end read.1) then Err (stop n read.1) else Ok
+    (Some (record { upper = upper; sign = sign; digits = read.0 }))
 
 -- the value of an exponent whose sign and digits are read, to the end of the text
 abbrev pub exponent_number : ℕ → Bool → List ℕ × List ℕ → Result ℤ DecimalFault
-exponent_number n negative read = if is_end read.0 || not (is_end read.1) then Err (stop n read.1) else Ok (signed negative (min (number_from 0 read.0) GREATEST_EXPONENT))
+exponent_number n negative read =
+    if is_end read.0 || not (is_end read.1) then Err (stop n read.1) else Ok
+    (signed negative (min (number_from 0 read.0) GREATEST_EXPONENT))
 
 -- an exponent or none, to the end of a text of n bytes
 unfoldable pub exponent_in : ℕ → List ℕ → Result (Option Exponent) DecimalFault
 exponent_in n [] = Ok None
-exponent_in n (c ∷ cs) = if c == large_e || c == small_e then exponent_digits n (c == large_e) (sign_in cs).0 (digits_in (sign_in cs).1) else Err (stop n (c ∷ cs))
+exponent_in n (c ∷ cs) =
+    if c == large_e || c == small_e then exponent_digits n (c == large_e) (sign_in cs).0
+    (digits_in (sign_in cs).1) else Err (stop n (c ∷ cs))
 
 -- goes on with a value, and keeps a fault
 abbrev pub and_then : {A B E : Type 0} → (A → Result B E) → Result A E → Result B E

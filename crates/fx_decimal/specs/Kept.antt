@@ -6,7 +6,15 @@ use Rattle.fx_decimal.specs.declared.value.Kept.{Kept}
 
 -- one more digit, where a number of too many digits counts as the least of those
 abbrev pub with_digit : Kept → ℕ → Kept
-with_digit s c = if c == digit_zero then record { number = s.number; zeros = s.zeros + 1 } else record { number = min (s.number * 10 ^ (s.zeros + 1) + digit_value c) (10 ^ MOST_DIGITS); zeros = 0 }
+with_digit s c = if c == digit_zero then record {
+  number = s.number;
+  zeros =
+      s.zeros + 1;
+} else record {
+  number =
+      min (s.number * 10 ^ (s.zeros + 1) + digit_value c) (10 ^ MOST_DIGITS);
+  zeros = 0;
+}
 
 abbrev pub kept_from : Kept → List ℕ → Kept
 kept_from s [] = s

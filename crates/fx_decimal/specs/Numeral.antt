@@ -1,5 +1,7 @@
 -- Numerals, and the fractions that they mean.
-use Rattle.std.specs.Prelude.{ℕ, zero, suc, ◌+◌, ◌*◌, ◌/◌, ◌%◌, ◌^◌, ◌==◌, min, nat_lt, Bool, if◌then◌else◌, ℤ, pos, negsuc, ◌+ℤ◌, ◌-ℤ◌, List, [], ◌∷◌, ◌++◌, length, Option, Some, None, Result, Ok, Err}
+use Rattle.std.specs.Prelude.{ℕ, zero, suc, ◌+◌, ◌*◌, ◌/◌, ◌%◌, ◌^◌, ◌==◌, min, nat_lt, Bool, if◌then◌else◌, ℤ}
+use Rattle.std.specs.Prelude.{pos, negsuc, ◌+ℤ◌, ◌-ℤ◌, List, [], ◌∷◌, ◌++◌, length, Option, Some, None, Result}
+use Rattle.std.specs.Prelude.{Ok, Err}
 use Rattle.fx_nums.specs.Fraction.{Fraction, zero_fraction}
 use Rattle.fx_nums.specs.Signs.{Sign, sign_text, is_minus, signed, AreDigits, number_from, point_mark}
 use Rattle.fx_nums.specs.declared.fraction.Den.TheVariants.{Ten}
@@ -74,7 +76,8 @@ without_zeros (suc k) n = if n % 10 == 0 then (let r = without_zeros k (n / 10) 
 
 -- n / 10 ^ d below the limit of a fraction
 abbrev pub bounded : Bool → ℕ → ℕ → Result Fraction DecimalFault
-bounded negative n d = if nat_lt n (2 ^ VALUE_BITS * 10 ^ d) then Ok (record { num = signed negative n; den = Ten d }) else Err TooLarge
+bounded negative n d = if nat_lt n (2 ^ VALUE_BITS * 10 ^ d) then Ok
+    (record { num = signed negative n; den = Ten d }) else Err TooLarge
 
 -- n times the power of ten, no finer than a fraction may be
 abbrev pub scaled : Bool → ℕ → ℤ → Result Fraction DecimalFault
@@ -83,7 +86,8 @@ scaled negative n (negsuc q) = if nat_lt q GREATEST_TEN then bounded negative n 
 
 -- n times the power of ten, where n has no zero at its end and not too many digits; a zero has the power 0
 abbrev pub limited : Bool → ℕ → ℤ → Result Fraction DecimalFault
-limited negative n p = if n == 0 then Ok zero_fraction else (if nat_lt n (10 ^ MOST_DIGITS) then scaled negative n p else Err TooManyDigits)
+limited negative n p = if n == 0 then Ok zero_fraction else
+    (if nat_lt n (10 ^ MOST_DIGITS) then scaled negative n p else Err TooManyDigits)
 
 -- digits as one whole number, times ten to the power of the exponent less the count of digits after the point
 unfoldable pub digits_value : Bool → List ℕ → ℕ → ℤ → Result Fraction DecimalFault

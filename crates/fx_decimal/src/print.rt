@@ -1,6 +1,30 @@
 //! Decimals, printed into a small fixed text.
 
-ghost use Rattle.std.specs.Prelude.{◌≡◌, ◌≤◌, ◌<◌, ◌+◌, ◌-◌, ◌*◌, ◌/◌, ◌%◌, ◌^◌, ◌++◌, ◌∷◌, [], ℕ, List, length, take, pos, unsigned_abs, Bool, if◌then◌else◌, ◌&&◌, ◌==◌, not};
+ghost use Rattle.std.specs.Prelude.{
+  ◌≡◌,
+  ◌≤◌,
+  ◌<◌,
+  ◌+◌,
+  ◌-◌,
+  ◌*◌,
+  ◌/◌,
+  ◌%◌,
+  ◌^◌,
+  ◌++◌,
+  ◌∷◌,
+  [],
+  ℕ,
+  List,
+  length,
+  take,
+  pos,
+  unsigned_abs,
+  Bool,
+  if◌then◌else◌,
+  ◌&&◌,
+  ◌==◌,
+  not,
+};
 ghost use Rattle.std.specs.Fmt.{decimal};
 ghost use Rattle.fx_nums.specs.Fraction.{IsOverTen};
 ghost use Rattle.fx_nums.specs.Signs.{minus_text};
@@ -138,7 +162,8 @@ fn split(magnitude: u128, places: u8, up: bool) -> (u64, u64)
 fn rounded(negative: bool, magnitude: u128, places: u8, up: bool) -> Decimal
     requires magnitude { magnitude ≤ 2 ^ 126 }
     requires places { places ≤ MOST_PLACES }
-    ensures { let n = units up magnitude places in result ≡ written (negative && not (n == 0)) (n / 10 ^ places) (n % 10 ^ places) places }
+    ensures { let n = units up magnitude places in result
+        ≡ written (negative && not (n == 0)) (n / 10 ^ places) (n % 10 ^ places) places }
 {
     let (whole, rest) = split(magnitude, places, up);
     written(negative && (whole > 0 || rest > 0), whole, rest, places)

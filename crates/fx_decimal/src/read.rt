@@ -3,7 +3,19 @@
 ghost use Rattle.std.specs.Prelude.{◌≡◌, ◌≤◌, ◌+◌, ◌^◌, ◌<◌, ◌++◌, ◌-ℤ◌, ◌+ℤ◌, pos, IfOk, length, Ok, unsigned_abs};
 ghost use Rattle.std.specs.List.{AllByRecursion};
 ghost use Rattle.fx_decimal.specs.Continued.{BadByteLaw, EmptyLaw};
-ghost use Rattle.fx_decimal.specs.Faults.{NumeralLaw, TextLaw, after_in, and_then, digits_in, exponent_in, exponent_number, front_digits, numeral, sign_in, stop};
+ghost use Rattle.fx_decimal.specs.Faults.{
+  NumeralLaw,
+  TextLaw,
+  after_in,
+  and_then,
+  digits_in,
+  exponent_in,
+  exponent_number,
+  front_digits,
+  numeral,
+  sign_in,
+  stop,
+};
 ghost use Rattle.fx_nums.specs.Signs.{IsDigit, is_minus};
 ghost use Rattle.fx_decimal.specs.Numeral.{after_digits, digits_value, exponent_value};
 

@@ -13,7 +13,8 @@ use fx_nums::{Den, Frac, GREATEST_TEN, VALUE_BITS};
 // Ten to a greater power is no fraction.
 const GREATEST_POWER: u128 = 7;
 
-/// What digits write: the number without the zeros at its end, at most the least of too many digits, and the count of those zeros.
+/// What digits write: the number without the zeros at its end, at most the least of too many digits, and the count of
+/// those zeros.
 #[derive(Clone, Copy)]
 pub struct Kept {
     pub number: u64,

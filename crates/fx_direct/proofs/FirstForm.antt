@@ -1,5 +1,6 @@
 -- The first direct form puts out what its equations put out.
-use Rattle.std.proofs.Common.{◌≡◌, ℕ, ◌+◌, ◌*◌, ◌<◌, ◌≤◌, ◌⊎◌, inl, inr, List, [], ◌∷◌, ◌++◌, length, length-drop, drop, All, refl, arith, sym, ap, ap₂, ◌∙◌}
+use Rattle.std.proofs.Common.{◌≡◌, ℕ, ◌+◌, ◌*◌, ◌<◌, ◌≤◌, ◌⊎◌, inl, inr, List, [], ◌∷◌, ◌++◌, length}
+use Rattle.std.proofs.Common.{length-drop, drop, All, refl, arith, sym, ap, ap₂, ◌∙◌}
 use Rattle.std.proofs.Math.IntN.{ℤ, pos, ◌+ℤ◌, ◌*ℤ◌}
 use Rattle.std.proofs.lemmas.List.{length-map}
 use Rattle.std.proofs.lemmas.List.Elements.{All-head, All-tail}
@@ -18,7 +19,8 @@ use Rattle.fx_sif.proofs.Earlier.{ago, weigh}
 use Rattle.fx_sif.proofs.Delays.{alone, delay_in, delayed, over_states}
 use Rattle.fx_sif.proofs.OneScale.{weight, RowsMeet, cancelled}
 use Rattle.fx_direct.proofs.Outputs.{has_outputs}
-use Rattle.fx_sif.proofs.RowSums.{adds, all_add, adds_both, adds_first, adds_second, adds_here, adds_none, adds_its_row, adds_no_row}
+use Rattle.fx_sif.proofs.RowSums.{adds, all_add, adds_both, adds_first, adds_second, adds_here, adds_none}
+use Rattle.fx_sif.proofs.RowSums.{adds_its_row, adds_no_row}
 use Rattle.fx_direct.proofs.NeverRefused.{single_fits, df1_ascends}
 use Rattle.fx_sif.proofs.EntriesOfRow.{InRow, across_in}
 use Rattle.fx_sif.proofs.Denominators.{IsSuited, all_of_both, entries_suited, across_suits, Suits, first_suits}

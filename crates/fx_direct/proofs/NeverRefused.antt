@@ -1,5 +1,6 @@
 -- The entries of each direct form ascend, so none is refused.
-use Rattle.std.proofs.Common.{◌≡◌, ℕ, ◌+◌, ◌*◌, ◌<◌, ◌≤◌, Bool, true, false, cond, nat_lt, max, List, [], ◌∷◌, ◌++◌, length, length-drop, map, drop, refl, arith, subst, ◌∙◌}
+use Rattle.std.proofs.Common.{◌≡◌, ℕ, ◌+◌, ◌*◌, ◌<◌, ◌≤◌, Bool, true, false, cond, nat_lt, max, List, [], ◌∷◌}
+use Rattle.std.proofs.Common.{◌++◌, length, length-drop, map, drop, refl, arith, subst, ◌∙◌}
 use Rattle.std.proofs.Math.Nat.{le-max_left, le-max_right, max-le}
 use Rattle.std.proofs.lemmas.Bool.{ltb-true}
 use Rattle.std.proofs.lemmas.List.{length-append, length-map}
@@ -12,8 +13,11 @@ use Rattle.fx_sif.specs.Laws.{WhatFitsHasNoFault, NeverRefused}
 use Rattle.fx_sif.specs.declared.parts.Block.TheVariants.{K, L, M, N, P, Q, R, S}
 use Rattle.fx_sif.specs.declared.parts.Entry.{Entry}
 use Rattle.fx_sif.proofs.EntryCounts.{across_count, delays_count, joined_count}
-use Rattle.fx_sif.proofs.Ascending.{block_base, Ascends, CountsFit, number, fits_from, never_from, ascends_append, ascends_lower, one_ascends, across_ascends, rows_ascend, delays_ascend, led_ascends}
-use Rattle.fx_direct.specs.Forms.{order, single, fir_entries, fir_form, df1_entries, df1_form, df2_entries, df2_form, df2t_row, first_state, df2t_entries, df2t_form}
+use Rattle.fx_sif.proofs.Ascending.{block_base, Ascends, CountsFit, number, fits_from, never_from}
+use Rattle.fx_sif.proofs.Ascending.{ascends_append, ascends_lower, one_ascends, across_ascends, rows_ascend}
+use Rattle.fx_sif.proofs.Ascending.{delays_ascend, led_ascends}
+use Rattle.fx_direct.specs.Forms.{order, single, fir_entries, fir_form, df1_entries, df1_form, df2_entries}
+use Rattle.fx_direct.specs.Forms.{df2_form, df2t_row, first_state, df2t_entries, df2t_form}
 
 -- one input and one output
 counts_fit : (t x : ℕ) → t + x ≤ 39 → CountsFit (single t x)

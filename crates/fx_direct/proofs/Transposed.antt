@@ -1,7 +1,9 @@
 -- The second direct form transposed puts out what its equations put out: each state holds the sum of what is still to
 -- be
 -- put out, from its place in the lists on.
-use Rattle.std.proofs.Common.{◌≡◌, ℕ, zero, suc, ◌+◌, ◌*◌, ◌<◌, ◌≤◌, ◌⊎◌, inl, inr, Bool, true, false, cond, nat_lt, max, List, [], ◌∷◌, ◌++◌, length, length-drop, drop, All, refl, arith, sym, ap, ap₂, subst, ◌∙◌}
+use Rattle.std.proofs.Common.{◌≡◌, ℕ, zero, suc, ◌+◌, ◌*◌, ◌<◌, ◌≤◌, ◌⊎◌, inl, inr, Bool, true, false, cond}
+use Rattle.std.proofs.Common.{nat_lt, max, List, [], ◌∷◌, ◌++◌, length, length-drop, drop, All, refl, arith}
+use Rattle.std.proofs.Common.{sym, ap, ap₂, subst, ◌∙◌}
 use Rattle.std.proofs.Math.IntN.{ℤ, pos, ◌+ℤ◌, ◌*ℤ◌}
 use Rattle.std.proofs.lemmas.Bool.{ltb-true, ltb-false}
 use Rattle.std.proofs.lemmas.Int.{ints}
@@ -25,10 +27,12 @@ use Rattle.fx_sif.proofs.Earlier.{weigh}
 use Rattle.fx_sif.proofs.Delays.{one_weighs, alone}
 use Rattle.fx_sif.proofs.OneScale.{weight, RowsMeet, cancelled, no_weight}
 use Rattle.fx_direct.proofs.Outputs.{has_outputs}
-use Rattle.fx_sif.proofs.RowSums.{adds, all_add, adds_first, adds_second, adds_here, adds_none, adds_its_row, adds_no_row}
+use Rattle.fx_sif.proofs.RowSums.{adds, all_add, adds_first, adds_second, adds_here, adds_none, adds_its_row}
+use Rattle.fx_sif.proofs.RowSums.{adds_no_row}
 use Rattle.fx_direct.proofs.NeverRefused.{Greater, greater_order, single_fits, df2t_ascends}
 use Rattle.fx_sif.proofs.EntriesOfRow.{InRow}
-use Rattle.fx_sif.proofs.Denominators.{IsSuited, all_of_both, all_of_rows, entries_suited, Suits, first_suits, suits_by_place}
+use Rattle.fx_sif.proofs.Denominators.{IsSuited, all_of_both, all_of_rows, entries_suited, Suits, first_suits}
+use Rattle.fx_sif.proofs.Denominators.{suits_by_place}
 use Rattle.fx_sif.proofs.EarlierSums.{weigh_later, weigh_start, coefficient_next, weigh_from, weigh_past}
 use Rattle.fx_math.specs.Sums.{joined}
 use Rattle.fx_sif.proofs.Recursion.{fed_back, MeetsAt, meets_too, first_lag, fed_at}

@@ -1,5 +1,6 @@
 -- The form without feedback puts out what its equations put out.
-use Rattle.std.proofs.Common.{◌≡◌, ℕ, ◌+◌, ◌*◌, ◌<◌, ◌≤◌, List, [], ◌∷◌, length, drop, length-drop, refl, arith, lit≤, ap, ◌∙◌}
+use Rattle.std.proofs.Common.{◌≡◌, ℕ, ◌+◌, ◌*◌, ◌<◌, ◌≤◌, List, [], ◌∷◌, length, drop, length-drop, refl, arith}
+use Rattle.std.proofs.Common.{lit≤, ap, ◌∙◌}
 use Rattle.std.proofs.Math.IntN.{ℤ, pos, ◌+ℤ◌, ◌*ℤ◌}
 use Rattle.std.proofs.lemmas.Int.{ints}
 use Rattle.std.proofs.lemmas.List.Elements.{All-head, All-tail, All-nil}
@@ -19,7 +20,8 @@ use Rattle.fx_sif.proofs.Earlier.{weigh}
 use Rattle.fx_sif.proofs.Delays.{delay_in, delayed, over_states}
 use Rattle.fx_sif.proofs.OneScale.{weight, RowsMeet}
 use Rattle.fx_direct.proofs.Outputs.{has_outputs}
-use Rattle.fx_sif.proofs.RowSums.{adds, all_add, adds_first, adds_second, adds_here, adds_none, adds_its_row, adds_no_row}
+use Rattle.fx_sif.proofs.RowSums.{adds, all_add, adds_first, adds_second, adds_here, adds_none, adds_its_row}
+use Rattle.fx_sif.proofs.RowSums.{adds_no_row}
 use Rattle.fx_direct.proofs.NeverRefused.{single_fits, fir_ascends}
 use Rattle.fx_sif.proofs.EntriesOfRow.{InRow, across_in}
 use Rattle.fx_sif.proofs.Denominators.{IsSuited, all_of_both, entries_suited, across_suits, first_suits, Suits}

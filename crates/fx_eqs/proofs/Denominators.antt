@@ -1,5 +1,6 @@
 -- The common denominator of an equation system is one of each coefficient.
-use Rattle.std.proofs.Common.{◌≡◌, ℕ, ◌+◌, ◌-◌, ◌*◌, ◌/◌, ◌^◌, ◌<◌, ◌≤◌, max, List, [], ◌∷◌, length, get_or, zero, suc, arith, refl, ap, ap₂, sym, subst, ◌∙◌, inl, inr}
+use Rattle.std.proofs.Common.{◌≡◌, ℕ, ◌+◌, ◌-◌, ◌*◌, ◌/◌, ◌^◌, ◌<◌, ◌≤◌, max, List, [], ◌∷◌, length, get_or}
+use Rattle.std.proofs.Common.{zero, suc, arith, refl, ap, ap₂, sym, subst, ◌∙◌, inl, inr}
 use Rattle.std.proofs.Math.Nat.{pow-le-pow_right, pow-zero, one-le-pow, mul-div_left, max-eq_right, max-eq_left}
 use Rattle.std.proofs.lemmas.Bool.{cases_lt}
 use Rattle.std.proofs.lemmas.Nat.{pow-add}
@@ -12,7 +13,8 @@ use Rattle.fx_eqs.specs.Laws.{CommonDividesEach}
 
 -- a multiple of d
 multiple : (d m n : ℕ) → 0 < d → n ≡ d * m → d * (n / d) ≡ n
-multiple d m n h e = let whole : m * d / d ≡ m = mul-div_left m h in let same : n ≡ m * d = omega (arith, e) in rw same (rw whole (omega arith))
+multiple d m n h e = let whole : m * d / d ≡ m = mul-div_left m h in let same : n ≡ m * d =
+    omega (arith, e) in rw same (rw whole (omega arith))
 
 -- the greatest of powers is the power of the greatest exponent
 max_power : (b i j : ℕ) → 1 ≤ b → max (b ^ i) (b ^ j) ≡ b ^ max i j
@@ -27,7 +29,8 @@ max_power b i j h =
           max-eq_left powers ∙ ap (λ n. b ^ n) (sym (max-eq_left le))
     ]
 
-module _ (b : ℕ) (positive : 1 ≤ b) (part : Den → ℕ) (exponent : Den → ℕ) (is : (d : Den) → part d ≡ b ^ exponent d) where
+module _ (b : ℕ) (positive : 1 ≤ b) (part : Den → ℕ) (exponent : Den → ℕ) (is : (d : Den) →
+    part d ≡ b ^ exponent d) where
   abbrev top : List Term → ℕ
   top [] = 0
   top (t ∷ ts) = max (exponent t.coef.den) (top ts)
@@ -42,12 +45,16 @@ module _ (b : ℕ) (positive : 1 ≤ b) (part : Den → ℕ) (exponent : Den →
   top_high (t ∷ ts) (suc k) d h = let rest = top_high ts k d (omega arith) in omega arith
 
   -- each term's part divides it
-  pub each_divides : (ts : List Term) (k : ℕ) (d : Term) → k < length ts → (m : ℕ) × (greatest part ts ≡ part (get_or ts k d).coef.den * m)
+  pub each_divides : (ts : List Term) (k : ℕ) (d : Term) → k < length ts →
+      (m : ℕ) × (greatest part ts ≡ part (get_or ts k d).coef.den * m)
   each_divides ts k d h =
       let e : ℕ = exponent (get_or ts k d).coef.den in
       let high : e ≤ top ts = top_high ts k d h in
-      let same : e + (top ts - e) ≡ top ts = omega arith in
-      (b ^ (top ts - e), greatest_is ts ∙ ap (λ n. b ^ n) (sym same) ∙ pow-add b e (top ts - e) ∙ ap (λ n. n * b ^ (top ts - e)) (sym (is (get_or ts k d).coef.den)))
+      let same : e + (top ts - e) ≡ top ts = omega arith in (
+        b ^ (top ts - e),
+        greatest_is ts ∙ ap (λ n. b ^ n) (sym same) ∙ pow-add b e (top ts - e)
+            ∙ ap (λ n. n * b ^ (top ts - e)) (sym (is (get_or ts k d).coef.den)),
+      )
 
 two_exponent : Den → ℕ
 two_exponent (Two e) = e
@@ -68,9 +75,12 @@ ten_is (Two e) = refl
 ten_is (Ten d) = refl
 
 -- a product whose factors the two parts divide
-pub whole_product : (c : Den) (a b : ℕ) → (m : ℕ) × (a ≡ two_part c * m) → (m : ℕ) × (b ≡ ten_part c * m) → den_value c * (a * b / den_value c) ≡ a * b
-whole_product (Two e) a b two ten = multiple (2 ^ e) (two.0 * b) (a * b) (one-le-pow e 2 (omega arith)) (omega (arith, ap (λ x. x * b) two.1))
-whole_product (Ten d) a b two ten = multiple (10 ^ d) (a * ten.0) (a * b) (one-le-pow d 10 (omega arith)) (omega (arith, ap (λ x. a * x) ten.1))
+pub whole_product : (c : Den) (a b : ℕ) → (m : ℕ) × (a ≡ two_part c * m) → (m : ℕ) × (b ≡ ten_part c * m) →
+    den_value c * (a * b / den_value c) ≡ a * b
+whole_product (Two e) a b two ten =
+    multiple (2 ^ e) (two.0 * b) (a * b) (one-le-pow e 2 (omega arith)) (omega (arith, ap (λ x. x * b) two.1))
+whole_product (Ten d) a b two ten =
+    multiple (10 ^ d) (a * ten.0) (a * b) (one-le-pow d 10 (omega arith)) (omega (arith, ap (λ x. a * x) ten.1))
 
 one_at_least : (part : Den → ℕ) (ts : List Term) → 1 ≤ greatest part ts
 one_at_least part [] = omega arith

@@ -1,4 +1,5 @@
--- The expanded net of an equation system: rows that read rows of this moment or the one before, and inputs of this moment.
+-- The expanded net of an equation system: rows that read rows of this moment or the one before, and inputs of this
+-- moment.
 use Rattle.std.specs.Prelude.{ℕ, zero, suc, ◌+◌, ◌-◌, ◌==◌, List, [], ◌∷◌, ◌++◌, map, filter}
 use Rattle.fx_math.specs.Sums.{sum_below, joined}
 use Rattle.fx_nums.specs.Fraction.{Fraction, one_fraction}
@@ -45,10 +46,12 @@ net_read s (Row j) (suc (suc l)) = Old (row_hold_place s j + l)
 -- so many rows from a place on: the first holds what is read, each further one what the one before it held
 abbrev pub hold_rows : NetRead → ℕ → ℕ → List (List NetTerm)
 hold_rows from zero place = []
-hold_rows from (suc count) place = (record { coef = one_fraction; from = from } ∷ []) ∷ hold_rows (Old place) count (place + 1)
+hold_rows from (suc count) place =
+    (record { coef = one_fraction; from = from } ∷ []) ∷ hold_rows (Old place) count (place + 1)
 
 abbrev pub equation_row : Equations → ℕ → List NetTerm
-equation_row s i = map (λ (t : Term). record { coef = t.coef; from = net_read s t.from t.lag }) (filter (λ (t : Term). t.row == i) s.terms)
+equation_row s i = map (λ (t : Term). record { coef = t.coef; from = net_read s t.from t.lag })
+    (filter (λ (t : Term). t.row == i) s.terms)
 
 -- the rows in their order, each a list of its terms
 abbrev pub expanded : Equations → List (List NetTerm)

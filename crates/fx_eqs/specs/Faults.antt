@@ -1,5 +1,6 @@
 -- The first fault of an equation system.
-use Rattle.std.specs.Prelude.{ℕ, nat_lt, nat_le, ◌==◌, Bool, true, false, ◌&&◌, ◌||◌, cond, List, [], ◌∷◌, ◌++◌, length, Option, None}
+use Rattle.std.specs.Prelude.{ℕ, nat_lt, nat_le, ◌==◌, Bool, true, false, ◌&&◌, ◌||◌, cond, List, [], ◌∷◌, ◌++◌}
+use Rattle.std.specs.Prelude.{length, Option, None}
 use Rattle.std.specs.Option.{option_or}
 use Rattle.std.specs.List.{list_any}
 use Rattle.fx_math.specs.Faults.{fault_if}
@@ -10,7 +11,8 @@ use Rattle.fx_eqs.specs.declared.term.Source.{Source}
 use Rattle.fx_eqs.specs.declared.term.Source.TheVariants.{Row, In}
 use Rattle.fx_eqs.specs.declared.term.Term.{Term}
 use Rattle.fx_eqs.specs.declared.fault.EqsFault.{EqsFault}
-use Rattle.fx_eqs.specs.declared.fault.EqsFault.TheVariants.{ForwardNow, RowRange, InputRange, LagRange, TooManyTerms, TooManyRows, Twice, NoMemory}
+use Rattle.fx_eqs.specs.declared.fault.EqsFault.TheVariants.{ForwardNow, RowRange, InputRange, LagRange}
+use Rattle.fx_eqs.specs.declared.fault.EqsFault.TheVariants.{TooManyTerms, TooManyRows, Twice, NoMemory}
 
 -- ---- one term
 
@@ -21,7 +23,8 @@ source_fault rows inputs place (In j) rest = fault_if (nat_le inputs j) (InputRa
 
 -- so are the term's row and its source
 abbrev pub range_fault : ℕ → ℕ → ℕ → Term → Option EqsFault → Option EqsFault
-range_fault rows inputs place t rest = fault_if (nat_le rows t.row) (RowRange place) (source_fault rows inputs place t.from rest)
+range_fault rows inputs place t rest =
+    fault_if (nat_le rows t.row) (RowRange place) (source_fault rows inputs place t.from rest)
 
 -- a row at lag 0 that is not an earlier one
 abbrev pub is_forward_read : ℕ → Source → ℕ → Bool
@@ -53,7 +56,8 @@ term_fault rows inputs earlier t = cond (is_kept t) (kept_term_fault rows inputs
 -- the first, term by term
 abbrev pub terms_fault : ℕ → ℕ → List Term → List Term → Option EqsFault
 terms_fault rows inputs earlier [] = None
-terms_fault rows inputs earlier (t ∷ ts) = option_or (term_fault rows inputs earlier t) (terms_fault rows inputs (earlier ++ t ∷ []) ts)
+terms_fault rows inputs earlier (t ∷ ts) =
+    option_or (term_fault rows inputs earlier t) (terms_fault rows inputs (earlier ++ t ∷ []) ts)
 
 -- then of the counts
 abbrev pub eqs_fault : ℕ → ℕ → List Term → Option EqsFault

@@ -16,7 +16,8 @@ abbrev pub greatest_lag : Source → List Term → ℕ
 greatest_lag source [] = 0
 greatest_lag source (t ∷ ts) = max (if same_source t.from source then t.lag else 0) (greatest_lag source ts)
 
--- the rows of the net: for each input as many as its greatest lag, the rows, and for each row one less than its greatest lag
+-- the rows of the net: for each input as many as its greatest lag, the rows, and for each row one less than its
+-- greatest lag
 abbrev pub net_rows : ℕ → ℕ → List Term → ℕ
 net_rows rows inputs terms =
     sum_below inputs (λ j. greatest_lag (In j) terms) + rows + sum_below rows (λ j. greatest_lag (Row j) terms - 1)

@@ -11,7 +11,8 @@ use Rattle.fx_eqs.specs.declared.term.Term.{Term}
 -- the exact value of each row at each moment is the sum of its terms over the exact values
 abbrev pub MeetsEquations : Equations → Type 0
 MeetsEquations s =
-    (q : ℕ) (u : ℕ → ℕ → ℤ) (k i : ℕ) → i < s.rows → exact_value s q u k i ≡ terms_sum s q u k i (λ l j. lagged (exact_value s q u) k l j) s.terms
+    (q : ℕ) (u : ℕ → ℕ → ℤ) (k i : ℕ) → i < s.rows → exact_value s q u k i
+    ≡ terms_sum s q u k i (λ l j. lagged (exact_value s q u) k l j) s.terms
 
 -- so it is in each system within the limits
 abbrev pub SystemsMeetTheirEquations : Type 0
@@ -20,7 +21,9 @@ SystemsMeetTheirEquations = (s : Equations) → EquationsFit s → MeetsEquation
 -- terms are never refused where those that are kept make a system within the limits
 abbrev pub WhatFitsHasNoFault : Type 0
 WhatFitsHasNoFault =
-    (rows inputs : ℕ) (terms : List Term) (outputs : List ℕ) → EquationsFit (record { rows = rows; inputs = inputs; terms = kept terms; outputs = outputs }) → eqs_fault rows inputs terms ≡ None
+    (rows inputs : ℕ) (terms : List Term) (outputs : List ℕ) →
+    EquationsFit (record { rows = rows; inputs = inputs; terms = kept terms; outputs = outputs }) →
+    eqs_fault rows inputs terms ≡ None
 
 -- the common denominator is positive, and each multiple of it is one of every coefficient
 abbrev pub CommonDividesEach : Type 0

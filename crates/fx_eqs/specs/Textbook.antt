@@ -1,6 +1,7 @@
--- The equations of the four forms of a filter: the terms in the order written, coefficients 0 among them, and the system
--- of those that are kept.
-use Rattle.std.specs.Prelude.{ℕ, zero, suc, ◌+◌, ◌-◌, ◌*◌, ◌/◌, ◌==◌, if◌then◌else◌, List, [], ◌∷◌, ◌++◌, length, map, take, drop}
+-- The equations of the four forms of a filter: the terms in the order written, coefficients 0 among them, and the
+-- system of those that are kept.
+use Rattle.std.specs.Prelude.{ℕ, zero, suc, ◌+◌, ◌-◌, ◌*◌, ◌/◌, ◌==◌, if◌then◌else◌, List, [], ◌∷◌, ◌++◌}
+use Rattle.std.specs.Prelude.{length, map, take, drop}
 use Rattle.fx_nums.specs.Fraction.{Fraction, one_fraction, minus}
 use Rattle.fx_eqs.specs.Equations.{Equations, kept}
 use Rattle.fx_eqs.specs.declared.term.Source.{Source}
@@ -55,7 +56,8 @@ sos_equations cs =
 abbrev pub matrix_rows : ℕ → ℕ → ℕ → ℕ → List Fraction → List Fraction → List Term
 matrix_rows zero row n m x u = []
 matrix_rows (suc count) row n m x u =
-    over_sources row (λ j. Row j) 1 0 (take n x) ++ over_sources row (λ j. In j) 0 0 (take m u) ++ matrix_rows count (row + 1) n m (drop n x) (drop m u)
+    over_sources row (λ j. Row j) 1 0 (take n x) ++ over_sources row (λ j.
+    In j) 0 0 (take m u) ++ matrix_rows count (row + 1) n m (drop n x) (drop m u)
 
 -- n, n + 1, .., so many
 abbrev pub up_from : ℕ → ℕ → List ℕ
@@ -67,7 +69,8 @@ abbrev pub ss_terms : ℕ → ℕ → ℕ → List Fraction → List Fraction �
 ss_terms n m p A B C D = matrix_rows n 0 n m A B ++ matrix_rows p n n m C D
 
 abbrev pub ss_equations : ℕ → ℕ → ℕ → List Fraction → List Fraction → List Fraction → List Fraction → Equations
-ss_equations n m p A B C D = record { rows = n + p; inputs = m; terms = kept (ss_terms n m p A B C D); outputs = up_from n p }
+ss_equations n m p A B C D =
+    record { rows = n + p; inputs = m; terms = kept (ss_terms n m p A B C D); outputs = up_from n p }
 
 -- ---- lattice: N reflection coefficients k1 .. kN and N + 1 taps v0 .. vN
 
@@ -83,7 +86,8 @@ backward n i = if n == 0 then In 0 else Row (n - 1 + i)
 abbrev pub forward_rows : ℕ → ℕ → List Fraction → List Term
 forward_rows n i [] = []
 forward_rows n i (c ∷ cs) =
-    forward_rows n (i + 1) cs ++ summand (n - 1 - i) one_fraction (forward n (i + 1)) 0 ∷ summand (n - 1 - i) (minus c) (backward n i) 1 ∷ []
+    forward_rows n (i + 1) cs ++ summand (n - 1 - i) one_fraction (forward n (i + 1)) 0 ∷ summand (n - 1 - i)
+    (minus c) (backward n i) 1 ∷ []
 
 -- g_(i+1)(k) = k_(i+1) f_i(k) + g_i(k-1), from i = 0 up
 abbrev pub backward_rows : ℕ → ℕ → List Fraction → List Term

@@ -49,7 +49,8 @@ CascadeRuns =
     (count : ℕ) (cs : List Fraction) (g : ℕ) (u : ℕ → ℕ → ℤ) → 1 ≤ count → count ≤ SECTIONS → length cs ≡ 6 * count →
     let s = sos_equations cs in
     DividesEach g s.terms → (i : ℕ) → i < count →
-    MeetsRecursion (numerator_of cs i) (denominator_of cs i) (source_values s g u (section_source i)) (source_values s g u (Row i))
+    MeetsRecursion (numerator_of cs i) (denominator_of cs i) (source_values s g u (section_source i))
+    (source_values s g u (Row i))
 
 -- ---- state space
 
@@ -61,7 +62,8 @@ matrix_row columns entries i = take columns (drop (i * columns) entries)
 pub record MeetsStateSpace (n m p : ℕ) (A B C D : List Fraction) (u x y : ℕ → ℕ → Ratio) : Type 0 where
   pub start : (i : ℕ) → i < n → x 0 i ≡ whole (pos 0)
   pub states : (k i : ℕ) → i < n →
-      SameValue (x (suc k) i) (sum_of (over_numbers (matrix_row n A i) (x k) 0) (over_numbers (matrix_row m B i) (u k) 0))
+      SameValue (x (suc k) i) (sum_of (over_numbers (matrix_row n A i) (x k) 0)
+      (over_numbers (matrix_row m B i) (u k) 0))
   pub outputs : (k i : ℕ) → i < p →
       SameValue (y k i) (sum_of (over_numbers (matrix_row n C i) (x k) 0) (over_numbers (matrix_row m D i) (u k) 0))
 
@@ -72,7 +74,8 @@ StateSpaceRuns =
     n ≤ STATES → 1 ≤ m → m ≤ PORTS → 1 ≤ p → p ≤ PORTS →
     let s = ss_equations n m p A B C D in
     DividesEach g s.terms →
-    MeetsStateSpace n m p A B C D (λ k j. source_values s g u (In j) k) (λ k i. earlier (source_values s g u (Row i)) k 1)
+    MeetsStateSpace n m p A B C D (λ k j. source_values s g u (In j) k) (λ k i.
+    earlier (source_values s g u (Row i)) k 1)
     (λ k i. source_values s g u (Row (n + i)) k)
 
 -- ---- lattice
@@ -82,12 +85,15 @@ abbrev pub reflection : List Fraction → ℕ → Fraction
 reflection k i = slice_index_or k i zero_fraction
 
 -- From the input f_N down to f_0, which is g_0, and back up to g_N:
--- f_i(k) = f_(i+1)(k) - k_(i+1) g_i(k-1) and g_(i+1)(k) = k_(i+1) f_i(k) + g_i(k-1); and y(k) = v0 g_0(k) + v1 g_1(k) + .. .
-pub record MeetsLattice (reflections taps : List Fraction) (x : ℕ → Ratio) (f g : ℕ → ℕ → Ratio) (y : ℕ → Ratio) : Type 0 where
+-- f_i(k) = f_(i+1)(k) - k_(i+1) g_i(k-1) and g_(i+1)(k) = k_(i+1) f_i(k) + g_i(k-1); and y(k) = v0 g_0(k) + v1 g_1(k) +
+-- .. .
+pub record MeetsLattice (reflections taps : List Fraction) (x : ℕ → Ratio) (f g : ℕ → ℕ → Ratio) (y : ℕ →
+    Ratio) : Type 0 where
   pub front : (k : ℕ) → f (length reflections) k ≡ x k
   pub back : (k : ℕ) → g 0 k ≡ f 0 k
   pub forward_rows : (k i : ℕ) → i < length reflections →
-      SameValue (f i k) (difference_of (f (i + 1) k) (product_of (value_of (reflection reflections i)) (earlier (g i) k 1)))
+      SameValue (f i k) (difference_of (f (i + 1) k)
+      (product_of (value_of (reflection reflections i)) (earlier (g i) k 1)))
   pub backward_rows : (k i : ℕ) → i < length reflections →
       SameValue (g (i + 1) k) (sum_of (product_of (value_of (reflection reflections i)) (f i k)) (earlier (g i) k 1))
   pub output : (k : ℕ) → SameValue (y k) (over_numbers taps (λ i. g i k) 0)
@@ -98,5 +104,6 @@ LatticeRuns =
     let s = lattice_equations k v in
     let n = length k in
     DividesEach g s.terms →
-    MeetsLattice k v (source_values s g u (In 0)) (λ i. source_values s g u (forward n i)) (λ i. source_values s g u (backward n i))
+    MeetsLattice k v (source_values s g u (In 0)) (λ i. source_values s g u (forward n i)) (λ i.
+    source_values s g u (backward n i))
     (source_values s g u (Row (2 * n)))

@@ -18,8 +18,8 @@ pub fn exact_values_meet_their_equations()
     ensures { SystemsMeetTheirEquations }
 {}
 
-/// A law with nothing to run: the terms of a transfer function with at most `COEFFICIENTS` coefficients above and below are
-/// never refused.
+/// A law with nothing to run: the terms of a transfer function with at most `COEFFICIENTS` coefficients above and below
+/// are never refused.
 pub fn transfer_functions_have_no_fault(b: &[Frac], a: &[Frac])
     requires b_high { length b.now ≤ COEFFICIENTS }
     requires a_high { length a.now ≤ COEFFICIENTS }
@@ -61,8 +61,8 @@ pub fn lattices_have_no_fault(k: &[Frac], v: &[Frac])
     ensures { eqs_fault (2 * length k.now + 1) 1 (lattice_terms k.now v.now) ≡ None }
 {}
 
-/// A law with nothing to run: the product of the greatest powers of two and of ten among the denominators of a system is
-/// positive, and it and each of its multiples is a denominator of every coefficient of the system.
+/// A law with nothing to run: the product of the greatest powers of two and of ten among the denominators of a system
+/// is positive, and it and each of its multiples is a denominator of every coefficient of the system.
 pub fn common_divides_each()
     ensures { CommonDividesEach }
 {}
@@ -73,8 +73,8 @@ pub fn transfer_functions_meet_their_recursion()
     ensures { TransferRuns }
 {}
 
-/// A law with nothing to run: in the exact run of a cascade, each second-order section meets its recursion over the section
-/// before it, and the first over the input.
+/// A law with nothing to run: in the exact run of a cascade, each second-order section meets its recursion over the
+/// section before it, and the first over the input.
 pub fn cascades_meet_their_recursions()
     ensures { CascadeRuns }
 {}
@@ -85,8 +85,8 @@ pub fn state_spaces_meet_their_equations()
     ensures { StateSpaceRuns }
 {}
 
-/// A law with nothing to run: the exact run of a lattice meets its equations from the input down to the first reflection
-/// and back up, and its output is the sum of the taps over what comes back.
+/// A law with nothing to run: the exact run of a lattice meets its equations from the input down to the first
+/// reflection and back up, and its output is the sum of the taps over what comes back.
 pub fn lattices_meet_their_equations()
     ensures { LatticeRuns }
 {}

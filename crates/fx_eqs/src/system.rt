@@ -54,7 +54,13 @@ impl Eqs {
         requires outputs_low { 1 ≤ length outputs.now }
         requires outputs_high { length outputs.now ≤ PORTS }
         requires outputs_below { 1 ≤ rows → All (λ o. o < rows) outputs.now }
-        ensures ok { IfOk result (λ s. s ≡ record { rows = rows; inputs = inputs; terms = kept terms.now; outputs = outputs.now }) }
+        ensures ok { IfOk result (λ s. s ≡ record {
+          rows = rows;
+          inputs = inputs;
+          terms =
+              kept terms.now;
+          outputs = outputs.now;
+        }) }
         ensures fault { eqs_fault rows inputs terms.now ≡ fault_told is_memory result }
     {
         if let Some(fault) = eqs_fault(rows, inputs, terms) {

@@ -5,7 +5,8 @@ use Rattle.std.proofs.lemmas.Int.{ints}
 use Rattle.fx_math.specs.Sums.{total}
 use Rattle.fx_sweep.specs.Kept.{IsUpTo}
 
-pub one_more_fits : (i most : ℕ) (a p r : ℤ) → r ≡ a +ℤ p → IsUpTo (i * most) a → IsUpTo most p → IsUpTo ((i + 1) * most) r
+pub one_more_fits : (i most : ℕ) (a p r : ℤ) → r ≡ a +ℤ p → IsUpTo (i * most) a → IsUpTo most p →
+    IsUpTo ((i + 1) * most) r
 one_more_fits i most a p r e h k =
     let n : (i + 1) * most ≡ i * most + most = grind arith in
     (omega (arith, ints, e, h.0, k.0), omega (arith, ints, e, h.1, k.1, n))

@@ -17,27 +17,35 @@ use Rattle.fx_error.specs.declared.parts.Parts.{Parts}
 -- the sums of what is kept
 pub record AreKept (k : Kept) (t : ℕ) (bounds rows : ℕ → ℕ) (parts : Parts) : Type 0 where
   pub rounding_is : parts.rounding ≡ kept_rounding k t
-  pub difference_is : parts.difference ≡ total PORTS (λ j. kept_gain k t j *ℤ pos (bounds j)) +ℤ total k.size (λ i. kept_width k t i *ℤ pos (rows i))
+  pub difference_is : parts.difference ≡ total PORTS (λ j.
+      kept_gain k t j *ℤ pos (bounds j)) +ℤ total k.size (λ i. kept_width k t i *ℤ pos (rows i))
   pub rest_is : parts.rest ≡ total k.size (λ i. kept_rest k t i *ℤ pos (rows i))
 
 added : (a b c d x y z : ℤ) → x ≡ b → y ≡ a +ℤ c → z ≡ d → x +ℤ y +ℤ z ≡ a +ℤ b +ℤ c +ℤ d
 added a b c d x y z e f g = omega (arith, ints, e, f, g)
 
-pub parts_add_up : (k : Kept) (t : ℕ) (bounds rows : ℕ → ℕ) (parts : Parts) → AreKept k t bounds rows parts → parts.rounding +ℤ parts.difference +ℤ parts.rest ≡ kept_total k t bounds rows
+pub parts_add_up : (k : Kept) (t : ℕ) (bounds rows : ℕ → ℕ) (parts : Parts) → AreKept k t bounds rows parts →
+    parts.rounding +ℤ parts.difference +ℤ parts.rest ≡ kept_total k t bounds rows
 parts_add_up k t bounds rows parts h =
-    added (total PORTS (λ j. kept_gain k t j *ℤ pos (bounds j))) (kept_rounding k t) (total k.size (λ i. kept_width k t i *ℤ pos (rows i))) (total k.size (λ i. kept_rest k t i *ℤ pos (rows i)))
+    added (total PORTS (λ j. kept_gain k t j *ℤ pos (bounds j))) (kept_rounding k t)
+    (total k.size (λ i. kept_width k t i *ℤ pos (rows i)))
+    (total k.size (λ i. kept_rest k t i *ℤ pos (rows i)))
     parts.rounding parts.difference parts.rest h.rounding_is h.difference_is h.rest_is
 
-pub are_parts : (k : Kept) (t : ℕ) (net : Net) (start : ℕ → Interval) (m : ℕ) (b r : ℕ → ℕ) (parts : Parts) → net.rows ≡ k.size → HoldsTarget k t net start m → AreKept k t b r parts → ArePartsOf net start m b r parts
+pub are_parts : (k : Kept) (t : ℕ) (net : Net) (start : ℕ → Interval) (m : ℕ) (b r : ℕ → ℕ) (parts : Parts) →
+    net.rows ≡ k.size → HoldsTarget k t net start m → AreKept k t b r parts → ArePartsOf net start m b r parts
 are_parts k t net start m b r parts rows h kept =
     let inputs : total PORTS (λ j. kept_gain k t j *ℤ pos (b j)) ≡ input_part net start m b =
-    total_ext PORTS (λ j. kept_gain k t j *ℤ pos (b j)) (λ j. pos (input_gain net start m j * b j)) (λ j l. ap (λ z. z *ℤ pos (b j)) (h.gains_are j l) ∙ pos-*ℤ-pos (input_gain net start m j) (b j)) in
+    total_ext PORTS (λ j. kept_gain k t j *ℤ pos (b j)) (λ j. pos (input_gain net start m j * b j)) (λ j l.
+    ap (λ z. z *ℤ pos (b j)) (h.gains_are j l) ∙ pos-*ℤ-pos (input_gain net start m j) (b j)) in
     let widths_are : total k.size (λ i. kept_width k t i *ℤ pos (r i)) ≡ width_part net start m r =
     ap (λ n. total n (λ i. kept_width k t i *ℤ pos (r i))) (sym rows)
-    ∙ total_ext net.rows (λ i. kept_width k t i *ℤ pos (r i)) (λ i. widths net start m i *ℤ pos (r i)) (λ i l. ap (λ z. z *ℤ pos (r i)) (h.widths_are i l)) in
+    ∙ total_ext net.rows (λ i. kept_width k t i *ℤ pos (r i)) (λ i. widths net start m i *ℤ pos (r i)) (λ i l.
+    ap (λ z. z *ℤ pos (r i)) (h.widths_are i l)) in
     let rests_are : total k.size (λ i. kept_rest k t i *ℤ pos (r i)) ≡ rest_part net start m r =
     ap (λ n. total n (λ i. kept_rest k t i *ℤ pos (r i))) (sym rows)
-    ∙ total_ext net.rows (λ i. kept_rest k t i *ℤ pos (r i)) (λ i. pos (rest net start m i * r i)) (λ i l. ap (λ z. z *ℤ pos (r i)) (h.rests_are i l) ∙ pos-*ℤ-pos (rest net start m i) (r i)) in
+    ∙ total_ext net.rows (λ i. kept_rest k t i *ℤ pos (r i)) (λ i. pos (rest net start m i * r i)) (λ i l.
+    ap (λ z. z *ℤ pos (r i)) (h.rests_are i l) ∙ pos-*ℤ-pos (rest net start m i) (r i)) in
     let rounding_is = kept.rounding_is ∙ h.rounding_is in
     let difference_is = kept.difference_is ∙ ap₂ (λ x y. x +ℤ y) inputs widths_are in
     let rest_is = kept.rest_is ∙ rests_are in
@@ -45,5 +53,6 @@ are_parts k t net start m b r parts rows h kept =
       rounding_is = rounding_is;
       difference_is = difference_is;
       rest_is = rest_is;
-      whole = added (input_part net start m b) (rounding net start m) (width_part net start m r) (rest_part net start m r) parts.rounding parts.difference parts.rest rounding_is difference_is rest_is;
+      whole = added (input_part net start m b) (rounding net start m) (width_part net start m r)
+          (rest_part net start m r) parts.rounding parts.difference parts.rest rounding_is difference_is rest_is;
     }

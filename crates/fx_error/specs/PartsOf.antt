@@ -5,8 +5,8 @@ use Rattle.fx_net.specs.Net.{Net}
 use Rattle.fx_sweep.specs.Totals.{input_part, rest_part, rounding, target_total, width_part}
 use Rattle.fx_error.specs.declared.parts.Parts.{Parts}
 
--- What the roundings add; what the inputs add and what was cut off the weights; and what lies before the block. The three add
--- up to the total.
+-- What the roundings add; what the inputs add and what was cut off the weights; and what lies before the block. The
+-- three add up to the total.
 pub record ArePartsOf (net : Net) (start : ℕ → Interval) (m : ℕ) (bounds rows : ℕ → ℕ) (parts : Parts) : Type 0 where
   pub rounding_is : parts.rounding ≡ rounding net start m
   pub difference_is : parts.difference ≡ input_part net start m bounds +ℤ width_part net start m rows

@@ -5,7 +5,18 @@ ghost use Rattle.fx_net.specs.Net.{Net as AnyNet};
 ghost use Rattle.fx_sweep.specs.Target.{start_of};
 ghost use Rattle.fx_sweep.specs.declared.target.Target.{Target as AnyTarget};
 ghost use Rattle.fx_sweep.specs.Filled.{Filled, length_in, target_in};
-ghost use Rattle.fx_sweep.specs.Kept.{AreBounds, IsUpTo, bound_in, greatest_bound, greatest_gain, kept_gain, kept_rest, kept_rounding, kept_total, kept_width};
+ghost use Rattle.fx_sweep.specs.Kept.{
+  AreBounds,
+  IsUpTo,
+  bound_in,
+  greatest_bound,
+  greatest_gain,
+  kept_gain,
+  kept_rest,
+  kept_rounding,
+  kept_total,
+  kept_width,
+};
 ghost use Rattle.fx_error.specs.PartsOf.{ArePartsOf};
 
 use fx_eqs::PORTS;
@@ -16,8 +27,8 @@ use fx_sweep::{Totals, totals_fit};
 pub struct Parts {
     /// What the roundings of the rows may add.
     pub rounding: i128,
-    /// What the inputs may add, and what was cut off the weights. For a pair it is how far the exact values of its two rows
-    /// may be apart.
+    /// What the inputs may add, and what was cut off the weights. For a pair it is how far the exact values of its two
+    /// rows may be apart.
     pub difference: i128,
     /// What may come from before the block.
     pub rest: i128,
@@ -100,8 +111,8 @@ fn rest_part<const N: usize>(t: &Totals<N>, target: usize, x: &[i64]) -> i128
     all
 }
 
-/// The parts of the total of the target at place `target` of those that are filled, for bounds of the inputs' words and of
-/// the N rows, each 0 to 2147483647.
+/// The parts of the total of the target at place `target` of those that are filled, for bounds of the inputs' words and
+/// of the N rows, each 0 to 2147483647.
 pub fn split<const N: usize>(
     t: &Totals<N>,
     target: usize,
@@ -112,8 +123,12 @@ pub fn split<const N: usize>(
     requires bounds { AreBounds bounds.now }
     requires count { length x.now ≡ N }
     requires rows { AreBounds x.now }
-    ensures parts { (net : AnyNet) (targets : List AnyTarget) (lengths : List ℕ) → Filled t.now net targets lengths → ArePartsOf net (start_of (target_in targets target)) (length_in lengths target) (bound_in bounds.now) (bound_in x.now) result }
-    ensures total { result.rounding +ℤ result.difference +ℤ result.rest ≡ kept_total t.now target (bound_in bounds.now) (bound_in x.now) }
+    ensures parts { (net : AnyNet) (targets : List AnyTarget) (lengths : List ℕ) →
+        Filled t.now net targets lengths →
+        ArePartsOf net (start_of (target_in targets target)) (length_in lengths target) (bound_in bounds.now)
+        (bound_in x.now) result }
+    ensures total { result.rounding +ℤ result.difference +ℤ result.rest
+        ≡ kept_total t.now target (bound_in bounds.now) (bound_in x.now) }
 {
     totals_fit(t);
     let difference = sum(input_part(t, target, bounds), width_part(t, target, x));

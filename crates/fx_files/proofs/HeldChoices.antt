@@ -1,5 +1,8 @@
 -- The form, the structure and what else is chosen are read exactly where a table holds them.
-use Rattle.std.proofs.Common.{◌≡◌, ◌≢◌, ◌≤◌, ◌<◌, ◌∙◌, ℕ, zero, suc, ◌+◌, ℤ, pos, negsuc, ◌-ℤ◌, ◌≤ℤ◌, ◌<ℤ◌, unsigned_abs, Bool, true, false, List, [], ◌∷◌, ◌++◌, length, map, get_or, Option, Some, None, is_some, nat_cmp, Ordering, Less, Equal, Greater, Result, Ok, Err, refl, sym, ap, subst, arith, inl, inr, ◌⊎◌}
+use Rattle.std.proofs.Common.{◌≡◌, ◌≢◌, ◌≤◌, ◌<◌, ◌∙◌, ℕ, zero, suc, ◌+◌, ℤ, pos, negsuc, ◌-ℤ◌, ◌≤ℤ◌, ◌<ℤ◌}
+use Rattle.std.proofs.Common.{unsigned_abs, Bool, true, false, List, [], ◌∷◌, ◌++◌, length, map, get_or, Option}
+use Rattle.std.proofs.Common.{Some, None, is_some, nat_cmp, Ordering, Less, Equal, Greater, Result, Ok, Err}
+use Rattle.std.proofs.Common.{refl, sym, ap, subst, arith, inl, inr, ◌⊎◌}
 use Rattle.std.specs.Prelude.{IsSomeAnd, IsSome, MatchOption, All, nat_lt, nat_le, not, codes}
 use Rattle.std.specs.Int.Signed.{lt_z, le_z, lt_z_no}
 use Rattle.std.specs.Option.{option_map_or}
@@ -13,21 +16,30 @@ use Rattle.std.proofs.lemmas.Int.{ints}
 use Rattle.std.proofs.lemmas.List.Elements.{All-nil, All-cons, All-head, All-tail}
 use Rattle.std.proofs.lemmas.Map.Text.{is_eq-slice_cmp}
 use Rattle.std.proofs.lemmas.Slice.Eq.{bytes_eq-Decides}
-use Rattle.toml.specs.Data.{Data, Members, no_members, member, Items, no_items, item, get_member, as_str, as_integer, as_array, as_table}
+use Rattle.toml.specs.Data.{Data, Members, no_members, member, Items, no_items, item, get_member, as_str}
+use Rattle.toml.specs.Data.{as_integer, as_array, as_table}
 use Rattle.toml.specs.Parse.{parse_document}
 use Rattle.fx_nums.specs.Fraction.{Fraction, is_one, zero_fraction}
 use Rattle.fx_math.specs.Faults.{◌>>=◌, or_fault, unless}
 use Rattle.fx_math.specs.Words.{is_accumulator}
 use Rattle.fx_files.specs.Settings.{Settings, structure_at, structure_in, is_listed, accumulator_in, settings_in}
-use Rattle.fx_files.specs.Lists.{monic, each_monic, polynomial_in, transfer_in, cascade_in, state_rows, matrix_in, space_in, reflections_in, taps_in, ladder_in, coefficients_in}
-use Rattle.fx_files.specs.Describes.{DescribesInput, DescribesOutput, IsNear, HoldsPolynomial, DescribesTransfer, DescribesCascade, DescribesSpace, DescribesLattice, DescribesCoefficients, HoldsStructure, DescribesSettings, HoldsForm, Describes, IsFileOf, FileLaw, DescribesOne}
+use Rattle.fx_files.specs.Lists.{monic, each_monic, polynomial_in, transfer_in, cascade_in, state_rows}
+use Rattle.fx_files.specs.Lists.{matrix_in, space_in, reflections_in, taps_in, ladder_in, coefficients_in}
+use Rattle.fx_files.specs.Describes.{DescribesInput, DescribesOutput, IsNear, HoldsPolynomial}
+use Rattle.fx_files.specs.Describes.{DescribesTransfer, DescribesCascade, DescribesSpace, DescribesLattice}
+use Rattle.fx_files.specs.Describes.{DescribesCoefficients, HoldsStructure, DescribesSettings, HoldsForm}
+use Rattle.fx_files.specs.Describes.{Describes, IsFileOf, FileLaw, DescribesOne}
 use Rattle.fx_keys.specs.Entries.{list_at, item_count, all_tables, some, at_most, exactly}
 use Rattle.fx_files.specs.Head.{form_in, head_in}
-use Rattle.fx_files.specs.Holds.{value_at, HasOnly, Each, IsListOf, IsTableOf, CountFits, HoldsTables, HoldsInteger, HoldsWhole, HoldsNatural, HoldsNaturals, IsNumeralOf, HoldsNumerals, HoldsRows, row_after_row, AreWide, HoldsMatrix}
+use Rattle.fx_files.specs.Holds.{value_at, HasOnly, Each, IsListOf, IsTableOf, CountFits, HoldsTables}
+use Rattle.fx_files.specs.Holds.{HoldsInteger, HoldsWhole, HoldsNatural, HoldsNaturals, IsNumeralOf}
+use Rattle.fx_files.specs.Holds.{HoldsNumerals, HoldsRows, row_after_row, AreWide, HoldsMatrix}
 use Rattle.fx_keys.specs.Keys.{IsWithin, own_name, range_of, most_of, default_of, default_list_of}
 use Rattle.fx_files.specs.Forms.{form_text, form_word, structure_text, structure_word, default_structure, known_keys}
 use Rattle.fx_keys.specs.Numerals.{numeral_at, each_numeral, entries_in, rows_in, matrix}
-use Rattle.fx_files.specs.Ports.{Inputs, Ports, top_word, bounds_of, tables_in, input_in, each_input, inputs_in, error_in, output_in, each_output, outputs_in, ports_in, alone, single, output_fits, outputs_fit}
+use Rattle.fx_files.specs.Ports.{Inputs, Ports, top_word, bounds_of, tables_in, input_in, each_input, inputs_in}
+use Rattle.fx_files.specs.Ports.{error_in, output_in, each_output, outputs_in, ports_in, alone, single}
+use Rattle.fx_files.specs.Ports.{output_fits, outputs_fit}
 use Rattle.fx_files.specs.Reading.{filter_in, filter_of_bytes}
 use Rattle.fx_files.specs.Building.{assembled, equations_of, target_of, with_rows}
 use Rattle.fx_files.specs.Coefficients as coefficients
@@ -37,7 +49,8 @@ use Rattle.fx_files.specs.Fits.{CountsFit}
 use Rattle.fx_keys.specs.Table.{table_at, needed, is_known, only_keys}
 use Rattle.fx_keys.specs.Wholes.{integer_or, whole_or, whole_in, natural_in, naturals_in}
 use Rattle.fx_keys.specs.declared.fault.FilterFault.{FilterFault}
-use Rattle.fx_keys.specs.declared.fault.FilterFault.TheVariants.{NotToml, Missing, WrongKind, UnknownKey, UnknownWord, Limit, Shape, NotMonic}
+use Rattle.fx_keys.specs.declared.fault.FilterFault.TheVariants.{NotToml, Missing, WrongKind, UnknownKey}
+use Rattle.fx_keys.specs.declared.fault.FilterFault.TheVariants.{UnknownWord, Limit, Shape, NotMonic}
 use Rattle.fx_files.specs.declared.formats.InputFormat.{InputFormat}
 use Rattle.fx_files.specs.declared.formats.OutputEntry.{OutputEntry}
 use Rattle.fx_files.specs.declared.formats.OutputFormat.{OutputFormat}
@@ -50,8 +63,13 @@ use Rattle.fx_files.specs.declared.forms.Form.TheVariants as form
 use Rattle.fx_files.specs.declared.forms.Structure.{Structure}
 use Rattle.fx_files.specs.declared.forms.Structure.TheVariants as structure
 use Rattle.fx_files.proofs.Steps.{and_some, bind_ok, bind_stands, fault_ok, ok_stands, same_ok, some_and, unless_ok}
-use Rattle.fx_files.proofs.HeldNumbers.{count_of, count_read, few_test, integer_read, integer_stands, natural_read, natural_stands, naturals_read, naturals_stand, not_below, some_test, sure_no, whole_read, whole_stands}
-use Rattle.fx_files.proofs.HeldNumerals.{AreRows, IsListed, entries_listed, entries_numerals, exact_count, exact_test, list_of, listed, listed_entries, listed_rows, matrix_read, matrix_stands, numeral_read, numeral_stands, numerals_entries, rows_listed}
+use Rattle.fx_files.proofs.HeldNumbers.{count_of, count_read, few_test, integer_read, integer_stands}
+use Rattle.fx_files.proofs.HeldNumbers.{natural_read, natural_stands, naturals_read, naturals_stand, not_below}
+use Rattle.fx_files.proofs.HeldNumbers.{some_test, sure_no, whole_read, whole_stands}
+use Rattle.fx_files.proofs.HeldNumerals.{AreRows, IsListed, entries_listed, entries_numerals, exact_count}
+use Rattle.fx_files.proofs.HeldNumerals.{exact_test, list_of, listed, listed_entries, listed_rows, matrix_read}
+use Rattle.fx_files.proofs.HeldNumerals.{matrix_stands, numeral_read, numeral_stands, numerals_entries}
+use Rattle.fx_files.proofs.HeldNumerals.{rows_listed}
 use Rattle.fx_files.proofs.HeldTables.{only_read, only_stands}
 
 -- ---- words
@@ -59,7 +77,8 @@ use Rattle.fx_files.proofs.HeldTables.{only_read, only_stands}
 named : (text word : List ℕ) → bytes_eq text word ≡ true → text ≡ word
 named text word h = (bytes_eq-Decides text word).0 h
 
-form_is : (text : List ℕ) (f g : Form) → ◌≡◌ {A = Option Form} (Some f) (Some g) → text ≡ form_text f → text ≡ form_text g
+form_is : (text : List ℕ) (f g : Form) → ◌≡◌ {A = Option Form} (Some f) (Some g) → text ≡ form_text f →
+    text ≡ form_text g
 form_is text f g same h = let e : f ≡ g = cc in subst (λ (x : Form). text ≡ form_text x) e h
 
 form_read : (text : List ℕ) (f : Form) → form_word text ≡ Some f → text ≡ form_text f
@@ -83,7 +102,8 @@ form_stands text form.Sos h = rw h refl
 form_stands text form.Ss h = rw h refl
 form_stands text form.Lattice h = rw h refl
 
-structure_is : (text : List ℕ) (f g : Structure) → ◌≡◌ {A = Option Structure} (Some f) (Some g) → text ≡ structure_text f → text ≡ structure_text g
+structure_is : (text : List ℕ) (f g : Structure) → ◌≡◌ {A = Option Structure} (Some f) (Some g) →
+    text ≡ structure_text f → text ≡ structure_text g
 structure_is text f g same h = let e : f ≡ g = cc in subst (λ (x : Structure). text ≡ structure_text x) e h
 
 structure_read : (text : List ℕ) (f : Structure) → structure_word text ≡ Some f → text ≡ structure_text f
@@ -96,10 +116,12 @@ structure_read text f h = elim (cases_Bool (bytes_eq text (codes "df1"))) [
       | inr n3 ↦ elim (cases_Bool (bytes_eq text (codes "fir"))) [
         | inl is ↦ structure_is text structure.Fir f (rw (n1, n2, n3, is) at h) (named text (codes "fir") is)
         | inr n4 ↦ elim (cases_Bool (bytes_eq text (codes "lattice"))) [
-          | inl is ↦ structure_is text structure.Lattice f (rw (n1, n2, n3, n4, is) at h) (named text (codes "lattice") is)
+          | inl is ↦ structure_is text structure.Lattice f (rw (n1, n2, n3, n4, is) at h)
+              (named text (codes "lattice") is)
           | inr n5 ↦ elim (cases_Bool (bytes_eq text (codes "ss"))) [
             | inl is ↦ structure_is text structure.Ss f (rw (n1, n2, n3, n4, n5, is) at h) (named text (codes "ss") is)
-            | inr n6 ↦ absurd (let e : ◌≡◌ {A = Option Structure} None (Some f) = rw (n1, n2, n3, n4, n5, n6) at h in cc)
+            | inr n6 ↦ absurd (let e : ◌≡◌ {A = Option Structure} None (Some f) =
+                rw (n1, n2, n3, n4, n5, n6) at h in cc)
           ]
         ]
       ]
@@ -126,7 +148,9 @@ head_read t form h =
     let (w, text, g2) = bind_ok (or_fault (WrongKind key.Form) (as_str v)) _ f g1 in
     let named_so : w ≡ form_text f = form_read w f (fault_ok (UnknownWord key.Form) (form_word w) f g2) in
     subst (λ (x : Form). HoldsForm t x × HasOnly (known_keys x) t) (same_ok f form same) (
-      and_some (value_at key.Form t) (λ v. as_str v ≡ Some (form_text f)) v (fault_ok (Missing key.Form) (value_at key.Form t) v there) (fault_ok (WrongKind key.Form) (as_str v) w text ∙ ap (λ (x : List ℕ). Some x) named_so),
+      and_some (value_at key.Form t) (λ v. as_str v ≡ Some (form_text f)) v
+          (fault_ok (Missing key.Form) (value_at key.Form t) v there)
+          (fault_ok (WrongKind key.Form) (as_str v) w text ∙ ap (λ (x : List ℕ). Some x) named_so),
       only_read (known_keys f) t u keys,
     )
 
@@ -134,35 +158,56 @@ pub head_stands : (t : Members) (form : Form) → HoldsForm t form → HasOnly (
 unfolding head_in
 head_stands t form h keys =
     let (v, there, text) = some_and (value_at key.Form t) (λ v. as_str v ≡ Some (form_text form)) h in
-    rw (ok_stands (Missing key.Form) (value_at key.Form t) v there, ok_stands (WrongKind key.Form) (as_str v) (form_text form) text, form_stands (form_text form) form refl, only_stands (known_keys form) t keys) refl
+    rw (
+      ok_stands (Missing key.Form) (value_at key.Form t) v there,
+      ok_stands (WrongKind key.Form) (as_str v) (form_text form) text,
+      form_stands (form_text form) form refl,
+      only_stands (known_keys form) t keys,
+    ) refl
 
 -- ---- settings
 
-structure_here : (form : Form) (o : Option Data) (s : Structure) → option_map_or structure_at o (Ok (default_structure form)) ≡ Ok s → MatchOption o (s ≡ default_structure form) (λ v. as_str v ≡ Some (structure_text s))
+structure_here : (form : Form) (o : Option Data) (s : Structure) →
+    option_map_or structure_at o (Ok (default_structure form)) ≡ Ok s →
+    MatchOption o (s ≡ default_structure form) (λ v. as_str v ≡ Some (structure_text s))
 structure_here form None s h = sym (same_ok (default_structure form) s h)
 structure_here form (Some v) s h =
     let (w, text, h1) = bind_ok (or_fault (WrongKind key.Structure) (as_str v)) _ s h in
     let named_so = structure_read w s (fault_ok (UnknownWord key.Structure) (structure_word w) s h1) in
     fault_ok (WrongKind key.Structure) (as_str v) w text ∙ ap (λ (x : List ℕ). Some x) named_so
 
-here_structure : (form : Form) (o : Option Data) (s : Structure) → MatchOption o (s ≡ default_structure form) (λ v. as_str v ≡ Some (structure_text s)) → option_map_or structure_at o (Ok (default_structure form)) ≡ Ok s
+here_structure : (form : Form) (o : Option Data) (s : Structure) →
+    MatchOption o (s ≡ default_structure form) (λ v. as_str v ≡ Some (structure_text s)) →
+    option_map_or structure_at o (Ok (default_structure form)) ≡ Ok s
 here_structure form None s h = ap (λ (x : Structure). Ok x) (sym h)
-here_structure form (Some v) s h = rw (ok_stands (WrongKind key.Structure) (as_str v) (structure_text s) h, structure_stands (structure_text s) s refl) refl
+here_structure form (Some v) s h =
+    rw (
+      ok_stands (WrongKind key.Structure) (as_str v) (structure_text s) h,
+      structure_stands (structure_text s) s refl,
+    ) refl
 
 listed_is : (z : ℤ) → is_listed z ≡ true → (n : ℕ) × (z ≡ pos n) × (is_accumulator n ≡ true)
 listed_is (pos n) h = (n, refl, h)
 listed_is (negsuc n) h = absurd cc
 
-accumulator_read : (t : Members) (n : ℕ) → accumulator_in t ≡ Ok n → HoldsInteger key.Accumulator (default_of key.Accumulator) t (pos n) × (is_accumulator n ≡ true)
+accumulator_read : (t : Members) (n : ℕ) → accumulator_in t ≡ Ok n →
+    HoldsInteger key.Accumulator (default_of key.Accumulator) t (pos n) × (is_accumulator n ≡ true)
 accumulator_read t n h =
     let (z, number, h1) = bind_ok (integer_or key.Accumulator (default_of key.Accumulator) t) _ n h in
-    let (u, is, same) = bind_ok (unless (Limit key.Accumulator z (range_of key.Accumulator).high) (is_listed z)) (λ u. Ok (unsigned_abs z)) n h1 in
+    let (u, is, same) = bind_ok
+    (unless (Limit key.Accumulator z (range_of key.Accumulator).high) (is_listed z)) (λ u.
+    Ok (unsigned_abs z)) n h1 in
     let (m, positive, fits) = listed_is z (unless_ok _ _ u is) in
     let size : unsigned_abs z ≡ n = same_ok (unsigned_abs z) n same in
-    let equal : m ≡ n = rw positive at size in
-    (subst (HoldsInteger key.Accumulator (default_of key.Accumulator) t) (positive ∙ ap pos equal) (integer_read key.Accumulator (default_of key.Accumulator) t z number), subst (λ (x : ℕ). is_accumulator x ≡ true) equal fits)
+    let equal : m ≡ n = rw positive at size in (
+      subst (HoldsInteger key.Accumulator (default_of key.Accumulator) t) (positive ∙ ap pos equal)
+          (integer_read key.Accumulator (default_of key.Accumulator) t z number),
+      subst (λ (x : ℕ). is_accumulator x ≡ true) equal fits,
+    )
 
-accumulator_stands : (t : Members) (n : ℕ) → HoldsInteger key.Accumulator (default_of key.Accumulator) t (pos n) → is_accumulator n ≡ true → accumulator_in t ≡ Ok n
+accumulator_stands : (t : Members) (n : ℕ) →
+    HoldsInteger key.Accumulator (default_of key.Accumulator) t (pos n) → is_accumulator n ≡ true →
+    accumulator_in t ≡ Ok n
 accumulator_stands t n h is =
     rw (integer_stands key.Accumulator (default_of key.Accumulator) t (pos n) h, is) refl
 

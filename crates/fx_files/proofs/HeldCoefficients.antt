@@ -1,5 +1,8 @@
 -- The coefficients of each form are read exactly where a table describes them.
-use Rattle.std.proofs.Common.{◌≡◌, ◌≢◌, ◌≤◌, ◌<◌, ◌∙◌, ℕ, zero, suc, ◌+◌, ℤ, pos, negsuc, ◌-ℤ◌, ◌≤ℤ◌, ◌<ℤ◌, unsigned_abs, Bool, true, false, List, [], ◌∷◌, ◌++◌, length, map, get_or, Option, Some, None, is_some, nat_cmp, Ordering, Less, Equal, Greater, Result, Ok, Err, refl, sym, ap, subst, arith, inl, inr, ◌⊎◌}
+use Rattle.std.proofs.Common.{◌≡◌, ◌≢◌, ◌≤◌, ◌<◌, ◌∙◌, ℕ, zero, suc, ◌+◌, ℤ, pos, negsuc, ◌-ℤ◌, ◌≤ℤ◌, ◌<ℤ◌}
+use Rattle.std.proofs.Common.{unsigned_abs, Bool, true, false, List, [], ◌∷◌, ◌++◌, length, map, get_or, Option}
+use Rattle.std.proofs.Common.{Some, None, is_some, nat_cmp, Ordering, Less, Equal, Greater, Result, Ok, Err}
+use Rattle.std.proofs.Common.{refl, sym, ap, subst, arith, inl, inr, ◌⊎◌}
 use Rattle.std.specs.Prelude.{IsSomeAnd, IsSome, MatchOption, All, nat_lt, nat_le, not, codes}
 use Rattle.std.specs.Int.Signed.{lt_z, le_z, lt_z_no}
 use Rattle.std.specs.Option.{option_map_or}
@@ -13,21 +16,30 @@ use Rattle.std.proofs.lemmas.Int.{ints}
 use Rattle.std.proofs.lemmas.List.Elements.{All-nil, All-cons, All-head, All-tail}
 use Rattle.std.proofs.lemmas.Map.Text.{is_eq-slice_cmp}
 use Rattle.std.proofs.lemmas.Slice.Eq.{bytes_eq-Decides}
-use Rattle.toml.specs.Data.{Data, Members, no_members, member, Items, no_items, item, get_member, as_str, as_integer, as_array, as_table}
+use Rattle.toml.specs.Data.{Data, Members, no_members, member, Items, no_items, item, get_member, as_str}
+use Rattle.toml.specs.Data.{as_integer, as_array, as_table}
 use Rattle.toml.specs.Parse.{parse_document}
 use Rattle.fx_nums.specs.Fraction.{Fraction, is_one, zero_fraction}
 use Rattle.fx_math.specs.Faults.{◌>>=◌, or_fault, unless}
 use Rattle.fx_math.specs.Words.{is_accumulator}
 use Rattle.fx_files.specs.Settings.{Settings, structure_at, structure_in, is_listed, accumulator_in, settings_in}
-use Rattle.fx_files.specs.Lists.{monic, each_monic, polynomial_in, transfer_in, cascade_in, state_rows, matrix_in, space_in, reflections_in, taps_in, ladder_in, coefficients_in}
-use Rattle.fx_files.specs.Describes.{DescribesInput, DescribesOutput, IsNear, HoldsPolynomial, DescribesTransfer, DescribesCascade, DescribesSpace, DescribesLattice, DescribesCoefficients, HoldsStructure, DescribesSettings, HoldsForm, Describes, IsFileOf, FileLaw, DescribesOne}
+use Rattle.fx_files.specs.Lists.{monic, each_monic, polynomial_in, transfer_in, cascade_in, state_rows}
+use Rattle.fx_files.specs.Lists.{matrix_in, space_in, reflections_in, taps_in, ladder_in, coefficients_in}
+use Rattle.fx_files.specs.Describes.{DescribesInput, DescribesOutput, IsNear, HoldsPolynomial}
+use Rattle.fx_files.specs.Describes.{DescribesTransfer, DescribesCascade, DescribesSpace, DescribesLattice}
+use Rattle.fx_files.specs.Describes.{DescribesCoefficients, HoldsStructure, DescribesSettings, HoldsForm}
+use Rattle.fx_files.specs.Describes.{Describes, IsFileOf, FileLaw, DescribesOne}
 use Rattle.fx_keys.specs.Entries.{list_at, item_count, all_tables, some, at_most, exactly}
 use Rattle.fx_files.specs.Head.{form_in, head_in}
-use Rattle.fx_files.specs.Holds.{value_at, HasOnly, Each, IsListOf, IsTableOf, CountFits, HoldsTables, HoldsInteger, HoldsWhole, HoldsNatural, HoldsNaturals, IsNumeralOf, HoldsNumerals, HoldsRows, row_after_row, AreWide, HoldsMatrix}
+use Rattle.fx_files.specs.Holds.{value_at, HasOnly, Each, IsListOf, IsTableOf, CountFits, HoldsTables}
+use Rattle.fx_files.specs.Holds.{HoldsInteger, HoldsWhole, HoldsNatural, HoldsNaturals, IsNumeralOf}
+use Rattle.fx_files.specs.Holds.{HoldsNumerals, HoldsRows, row_after_row, AreWide, HoldsMatrix}
 use Rattle.fx_keys.specs.Keys.{IsWithin, own_name, range_of, most_of, default_of, default_list_of}
 use Rattle.fx_files.specs.Forms.{form_text, form_word, structure_text, structure_word, default_structure, known_keys}
 use Rattle.fx_keys.specs.Numerals.{numeral_at, each_numeral, entries_in, rows_in, matrix}
-use Rattle.fx_files.specs.Ports.{Inputs, Ports, top_word, bounds_of, tables_in, input_in, each_input, inputs_in, error_in, output_in, each_output, outputs_in, ports_in, alone, single, output_fits, outputs_fit}
+use Rattle.fx_files.specs.Ports.{Inputs, Ports, top_word, bounds_of, tables_in, input_in, each_input, inputs_in}
+use Rattle.fx_files.specs.Ports.{error_in, output_in, each_output, outputs_in, ports_in, alone, single}
+use Rattle.fx_files.specs.Ports.{output_fits, outputs_fit}
 use Rattle.fx_files.specs.Reading.{filter_in, filter_of_bytes}
 use Rattle.fx_files.specs.Building.{assembled, equations_of, target_of, with_rows}
 use Rattle.fx_files.specs.Coefficients as coefficients
@@ -37,7 +49,8 @@ use Rattle.fx_files.specs.Fits.{CountsFit}
 use Rattle.fx_keys.specs.Table.{table_at, needed, is_known, only_keys}
 use Rattle.fx_keys.specs.Wholes.{integer_or, whole_or, whole_in, natural_in, naturals_in}
 use Rattle.fx_keys.specs.declared.fault.FilterFault.{FilterFault}
-use Rattle.fx_keys.specs.declared.fault.FilterFault.TheVariants.{NotToml, Missing, WrongKind, UnknownKey, UnknownWord, Limit, Shape, NotMonic}
+use Rattle.fx_keys.specs.declared.fault.FilterFault.TheVariants.{NotToml, Missing, WrongKind, UnknownKey}
+use Rattle.fx_keys.specs.declared.fault.FilterFault.TheVariants.{UnknownWord, Limit, Shape, NotMonic}
 use Rattle.fx_files.specs.declared.formats.InputFormat.{InputFormat}
 use Rattle.fx_files.specs.declared.formats.OutputEntry.{OutputEntry}
 use Rattle.fx_files.specs.declared.formats.OutputFormat.{OutputFormat}
@@ -50,8 +63,13 @@ use Rattle.fx_files.specs.declared.forms.Form.TheVariants as form
 use Rattle.fx_files.specs.declared.forms.Structure.{Structure}
 use Rattle.fx_files.specs.declared.forms.Structure.TheVariants as structure
 use Rattle.fx_files.proofs.Steps.{and_some, bind_ok, bind_stands, fault_ok, ok_stands, same_ok, some_and, unless_ok}
-use Rattle.fx_files.proofs.HeldNumbers.{count_of, count_read, few_test, integer_read, integer_stands, natural_read, natural_stands, naturals_read, naturals_stand, not_below, some_test, sure_no, whole_read, whole_stands}
-use Rattle.fx_files.proofs.HeldNumerals.{AreRows, IsListed, entries_listed, entries_numerals, exact_count, exact_test, list_of, listed, listed_entries, listed_rows, matrix_read, matrix_stands, numeral_read, numeral_stands, numerals_entries, rows_listed}
+use Rattle.fx_files.proofs.HeldNumbers.{count_of, count_read, few_test, integer_read, integer_stands}
+use Rattle.fx_files.proofs.HeldNumbers.{natural_read, natural_stands, naturals_read, naturals_stand, not_below}
+use Rattle.fx_files.proofs.HeldNumbers.{some_test, sure_no, whole_read, whole_stands}
+use Rattle.fx_files.proofs.HeldNumerals.{AreRows, IsListed, entries_listed, entries_numerals, exact_count}
+use Rattle.fx_files.proofs.HeldNumerals.{exact_test, list_of, listed, listed_entries, listed_rows, matrix_read}
+use Rattle.fx_files.proofs.HeldNumerals.{matrix_stands, numeral_read, numeral_stands, numerals_entries}
+use Rattle.fx_files.proofs.HeldNumerals.{rows_listed}
 
 some_ok : (k : Key) (vs : Items) → 1 ≤ item_count vs → some k vs ≡ Ok tt
 some_ok k vs h = rw (some_test (item_count vs) h) refl
@@ -80,7 +98,11 @@ polynomial_read k t cs h =
     let count = count_of IsNumeralOf cs vs each in
     record {
       entries = listed IsNumeralOf cs k t vs (entries_listed k t vs got) each;
-      count = record { some = subst (λ (n : ℕ). 1 ≤ n) count (any_read k vs u1 any); few = subst (λ (n : ℕ). n ≤ most_of k) count (few_read k vs u2 few) };
+      count = record {
+        some = subst (λ (n : ℕ). 1 ≤ n) count (any_read k vs u1 any);
+        few =
+            subst (λ (n : ℕ). n ≤ most_of k) count (few_read k vs u2 few);
+      };
     }
 
 polynomial_stands : (k : Key) (t : Members) (cs : List Fraction) → HoldsPolynomial k t cs → polynomial_in k t ≡ Ok cs
@@ -92,11 +114,13 @@ polynomial_stands k t cs h =
     let few : item_count vs ≤ most_of k = rw count h.count.few in
     rw (listed_entries k t vs cs list each, some_ok k vs any, few_ok k vs few) (entries_numerals k 0 vs cs each)
 
-leads_read : (place : ℕ) (cs : List Fraction) (u : Unit {0}) → 1 ≤ length cs → monic key.A place cs ≡ Ok u → is_one (get_or cs 0 zero_fraction) ≡ true
+leads_read : (place : ℕ) (cs : List Fraction) (u : Unit {0}) → 1 ≤ length cs → monic key.A place cs ≡ Ok u →
+    is_one (get_or cs 0 zero_fraction) ≡ true
 leads_read place [] u some h = absurd (omega arith)
 leads_read place (c ∷ cs) u some h = unless_ok _ _ u h
 
-leads_stand : (place : ℕ) (cs : List Fraction) → is_one (get_or cs 0 zero_fraction) ≡ true → monic key.A place cs ≡ Ok tt
+leads_stand : (place : ℕ) (cs : List Fraction) → is_one (get_or cs 0 zero_fraction) ≡ true →
+    monic key.A place cs ≡ Ok tt
 leads_stand place [] h = refl
 leads_stand place (c ∷ cs) h = rw h refl
 
@@ -108,11 +132,22 @@ transfer_read m p t l h =
     let (u, one, same) = bind_ok (monic key.A 0 a) _ l h2 in
     let denominator = polynomial_read key.A t a below in
     subst (DescribesCoefficients m p t) (same_ok (coefficients.Tf b a) l same)
-    (record { numerator = polynomial_read key.B t b above; denominator = denominator; leads = leads_read 0 a u denominator.count.some one })
+    (record {
+      numerator = polynomial_read key.B t b above;
+      denominator = denominator;
+      leads =
+          leads_read 0 a u denominator.count.some one;
+    })
 
-transfer_stands : (t : Members) (b a : List Fraction) → DescribesTransfer t b a → transfer_in t ≡ Ok (coefficients.Tf b a)
+transfer_stands : (t : Members) (b a : List Fraction) → DescribesTransfer t b a →
+    transfer_in t ≡ Ok (coefficients.Tf b a)
 unfolding transfer_in
-transfer_stands t b a h = rw (polynomial_stands key.B t b h.numerator, polynomial_stands key.A t a h.denominator, leads_stand 0 a h.leads) refl
+transfer_stands t b a h =
+    rw (
+      polynomial_stands key.B t b h.numerator,
+      polynomial_stands key.A t a h.denominator,
+      leads_stand 0 a h.leads,
+    ) refl
 
 -- ---- sections
 
@@ -141,19 +176,23 @@ Leads row = is_one (get_or row 3 zero_fraction) ≡ true
 abbrev IsWide : List Fraction → Type 0
 IsWide row = length row ≡ SECTION_COEFFICIENTS
 
-sections_lead : (place : ℕ) (rows : List (List Fraction)) (u : Unit {0}) → AreWide SECTION_COEFFICIENTS rows → each_monic key.Sections place (row_after_row rows) ≡ Ok u → All Leads rows
+sections_lead : (place : ℕ) (rows : List (List Fraction)) (u : Unit {0}) → AreWide SECTION_COEFFICIENTS rows →
+    each_monic key.Sections place (row_after_row rows) ≡ Ok u → All Leads rows
 unfolding each_monic
 sections_lead place [] u wide h = All-nil Leads
 sections_lead place (r ∷ rs) u wide h =
     let s = six r (All-head IsWide r rs wide) in
     let cs = row_after_row rs in
     let row = s.b0 ∷ s.b1 ∷ s.b2 ∷ s.a0 ∷ s.a1 ∷ s.a2 ∷ [] in
-    let e : each_monic key.Sections place (row ++ cs) ≡ Ok u = subst (λ (x : List Fraction). each_monic key.Sections place (x ++ cs) ≡ Ok u) s.is h in
-    let (w, one, rest) = bind_ok (unless (NotMonic key.Sections (place + 3)) (is_one s.a0)) (λ v. each_monic key.Sections (place + 6) cs) u e in
+    let e : each_monic key.Sections place (row ++ cs) ≡ Ok u =
+    subst (λ (x : List Fraction). each_monic key.Sections place (x ++ cs) ≡ Ok u) s.is h in
+    let (w, one, rest) = bind_ok (unless (NotMonic key.Sections (place + 3)) (is_one s.a0)) (λ v.
+    each_monic key.Sections (place + 6) cs) u e in
     let lead : Leads row = unless_ok _ _ w one in
     All-cons Leads r rs (subst Leads (sym s.is) lead) (sections_lead (place + 6) rs u (All-tail IsWide r rs wide) rest)
 
-lead_sections : (place : ℕ) (rows : List (List Fraction)) → AreWide SECTION_COEFFICIENTS rows → All Leads rows → each_monic key.Sections place (row_after_row rows) ≡ Ok tt
+lead_sections : (place : ℕ) (rows : List (List Fraction)) → AreWide SECTION_COEFFICIENTS rows →
+    All Leads rows → each_monic key.Sections place (row_after_row rows) ≡ Ok tt
 unfolding each_monic
 lead_sections place [] wide h = refl
 lead_sections place (r ∷ rs) wide h =
@@ -179,9 +218,14 @@ cascade_read m p t l h =
     (record {
       rows = r.rows;
       held = listed (IsListOf IsNumeralOf) r.rows key.Sections t vs (rows_listed key.Sections t vs got) r.stand;
-      count = record { some = subst (λ (n : ℕ). 1 ≤ n) count (any_read key.Sections vs u1 any); few = subst (λ (n : ℕ). n ≤ most_of key.Sections) count (few_read key.Sections vs u2 few) };
+      count = record {
+        some = subst (λ (n : ℕ). 1 ≤ n) count (any_read key.Sections vs u1 any);
+        few =
+            subst (λ (n : ℕ). n ≤ most_of key.Sections) count (few_read key.Sections vs u2 few);
+      };
       wide = r.wide;
-      lead = sections_lead 0 r.rows u3 r.wide (subst (λ (x : List Fraction). each_monic key.Sections 0 x ≡ Ok u3) r.joined one);
+      lead = sections_lead 0 r.rows u3 r.wide (subst (λ (x : List Fraction).
+          each_monic key.Sections 0 x ≡ Ok u3) r.joined one);
       joined = r.joined;
     })
 
@@ -192,13 +236,21 @@ cascade_stands t cs h =
     let count = count_of (IsListOf IsNumeralOf) h.rows vs each in
     let any : 1 ≤ item_count vs = rw count h.count.some in
     let few : item_count vs ≤ most_of key.Sections = rw count h.count.few in
-    let read : matrix key.Sections SECTION_COEFFICIENTS vs ≡ Ok cs = rw h.joined (matrix_stands key.Sections SECTION_COEFFICIENTS vs h.rows each h.wide) in
+    let read : matrix key.Sections SECTION_COEFFICIENTS vs ≡ Ok cs =
+    rw h.joined (matrix_stands key.Sections SECTION_COEFFICIENTS vs h.rows each h.wide) in
     let lead : each_monic key.Sections 0 cs ≡ Ok tt = rw h.joined (lead_sections 0 h.rows h.wide h.lead) in
-    rw (listed_rows key.Sections t vs h.rows list each, some_ok key.Sections vs any, few_ok key.Sections vs few, read, lead) refl
+    rw (
+      listed_rows key.Sections t vs h.rows list each,
+      some_ok key.Sections vs any,
+      few_ok key.Sections vs few,
+      read,
+      lead,
+    ) refl
 
 -- ---- state space
 
-matrix_held : (k : Key) (width : ℕ) (t : Members) (vs : Items) (cs : List Fraction) → rows_in k t ≡ Ok vs → matrix k width vs ≡ Ok cs → HoldsMatrix k (item_count vs) width t cs
+matrix_held : (k : Key) (width : ℕ) (t : Members) (vs : Items) (cs : List Fraction) → rows_in k t ≡ Ok vs →
+    matrix k width vs ≡ Ok cs → HoldsMatrix k (item_count vs) width t cs
 matrix_held k width t vs cs got read =
     let r = matrix_read k width vs cs read in
     record {
@@ -209,15 +261,18 @@ matrix_held k width t vs cs got read =
       joined = r.joined;
     }
 
-block_read : (k : Key) (height width : ℕ) (t : Members) (cs : List Fraction) → matrix_in k height width t ≡ Ok cs → HoldsMatrix k height width t cs
+block_read : (k : Key) (height width : ℕ) (t : Members) (cs : List Fraction) →
+    matrix_in k height width t ≡ Ok cs → HoldsMatrix k height width t cs
 unfolding matrix_in
 block_read k height width t cs h =
     let (vs, got, h1) = bind_ok (rows_in k t) _ cs h in
     let (u1, any, h2) = bind_ok (some k vs) _ cs h1 in
     let (u2, exact, h3) = bind_ok (exactly k height vs) _ cs h2 in
-    subst (λ (n : ℕ). HoldsMatrix k n width t cs) (exact_count k height vs u2 exact) (matrix_held k width t vs cs got h3)
+    subst (λ (n : ℕ). HoldsMatrix k n width t cs) (exact_count k height vs u2 exact)
+    (matrix_held k width t vs cs got h3)
 
-block_stands : (k : Key) (height width : ℕ) (t : Members) (cs : List Fraction) → 1 ≤ height → HoldsMatrix k height width t cs → matrix_in k height width t ≡ Ok cs
+block_stands : (k : Key) (height width : ℕ) (t : Members) (cs : List Fraction) → 1 ≤ height →
+    HoldsMatrix k height width t cs → matrix_in k height width t ≡ Ok cs
 unfolding matrix_in
 block_stands k height width t cs some h =
     let (vs, list, each) = list_of (IsListOf IsNumeralOf) h.rows k t h.held in
@@ -241,14 +296,16 @@ space_read m p t l h =
     let rows : rows_in key.MatA t ≡ Ok vs = got ∙ ap (λ (x : Items). Ok x) is in
     subst (DescribesCoefficients m p t) (same_ok (coefficients.Ss (item_count vs) a b c d) l same)
     (record {
-      states = subst (λ (x : Items). CountFits key.MatA (item_count x)) is (record { some = any_read key.MatA ws u1 any; few = few_read key.MatA ws u2 few });
+      states = subst (λ (x : Items). CountFits key.MatA (item_count x)) is
+          (record { some = any_read key.MatA ws u1 any; few = few_read key.MatA ws u2 few });
       state = matrix_held key.MatA (item_count vs) t vs a rows read;
       input = block_read key.MatB (item_count vs) m t b second;
       output = block_read key.MatC p (item_count vs) t c third;
       through = block_read key.MatD p m t d fourth;
     })
 
-space_stands : (m p : ℕ) (t : Members) (n : ℕ) (A B C D : List Fraction) → 1 ≤ p → DescribesSpace m p t n A B C D → space_in m p t ≡ Ok (coefficients.Ss n A B C D)
+space_stands : (m p : ℕ) (t : Members) (n : ℕ) (A B C D : List Fraction) → 1 ≤ p →
+    DescribesSpace m p t n A B C D → space_in m p t ≡ Ok (coefficients.Ss n A B C D)
 unfolding space_in state_rows
 space_stands m p t n A B C D some h =
     let s = h.state in
@@ -290,7 +347,8 @@ ladder_read m p t l h =
       one_more = sym (count_of IsNumeralOf v ws tapped) ∙ exact_count key.V (length k + 1) ws u3 exact;
     })
 
-ladder_stands : (t : Members) (k v : List Fraction) → DescribesLattice t k v → ladder_in t ≡ Ok (coefficients.Lattice k v)
+ladder_stands : (t : Members) (k v : List Fraction) → DescribesLattice t k v →
+    ladder_in t ≡ Ok (coefficients.Lattice k v)
 unfolding ladder_in reflections_in taps_in
 ladder_stands t k v h =
     let (vs, list, each) = list_of IsNumeralOf k key.K t h.reflections in
@@ -310,7 +368,8 @@ ladder_stands t k v h =
 
 -- ---- each form
 
-pub read_as : (form : Form) (m p : ℕ) (t : Members) (c : Coefficients) → coefficients_in form m p t ≡ Ok c → form ≡ form_of c
+pub read_as : (form : Form) (m p : ℕ) (t : Members) (c : Coefficients) → coefficients_in form m p t ≡ Ok c →
+    form ≡ form_of c
 unfolding transfer_in cascade_in space_in ladder_in
 read_as form.Tf m p t c h =
     let (b, above, h1) = bind_ok (polynomial_in key.B t) _ c h in
@@ -329,20 +388,23 @@ read_as form.Ss m p t c h =
     let (x, read, h2) = bind_ok (matrix key.MatA (item_count vs) vs) _ c h1 in
     let (y, second, h3) = bind_ok (matrix_in key.MatB (item_count vs) m t) _ c h2 in
     let (z, third, h4) = bind_ok (matrix_in key.MatC p (item_count vs) t) _ c h3 in
-    let (w, fourth, same) = bind_ok (matrix_in key.MatD p m t) (λ w. Ok (coefficients.Ss (item_count vs) x y z w)) c h4 in
+    let (w, fourth, same) = bind_ok (matrix_in key.MatD p m t) (λ w.
+    Ok (coefficients.Ss (item_count vs) x y z w)) c h4 in
     ap form_of (same_ok (coefficients.Ss (item_count vs) x y z w) c same)
 read_as form.Lattice m p t c h =
     let (k, first, h1) = bind_ok (reflections_in t) _ c h in
     let (v, second, same) = bind_ok (taps_in (length k) t) (λ v. Ok (coefficients.Lattice k v)) c h1 in
     ap form_of (same_ok (coefficients.Lattice k v) c same)
 
-pub coefficients_read : (form : Form) (m p : ℕ) (t : Members) (c : Coefficients) → coefficients_in form m p t ≡ Ok c → DescribesCoefficients m p t c
+pub coefficients_read : (form : Form) (m p : ℕ) (t : Members) (c : Coefficients) →
+    coefficients_in form m p t ≡ Ok c → DescribesCoefficients m p t c
 coefficients_read form.Tf m p t c h = transfer_read m p t c h
 coefficients_read form.Sos m p t c h = cascade_read m p t c h
 coefficients_read form.Ss m p t c h = space_read m p t c h
 coefficients_read form.Lattice m p t c h = ladder_read m p t c h
 
-pub coefficients_stand : (m p : ℕ) (t : Members) (c : Coefficients) → 1 ≤ p → DescribesCoefficients m p t c → coefficients_in (form_of c) m p t ≡ Ok c
+pub coefficients_stand : (m p : ℕ) (t : Members) (c : Coefficients) → 1 ≤ p → DescribesCoefficients m p t c →
+    coefficients_in (form_of c) m p t ≡ Ok c
 coefficients_stand m p t (coefficients.Tf b a) some h = transfer_stands t b a h
 coefficients_stand m p t (coefficients.Sos sections) some h = cascade_stands t sections h
 coefficients_stand m p t (coefficients.Ss n A B C D) some h = space_stands m p t n A B C D some h

@@ -1,5 +1,8 @@
 -- A file is read as a filter exactly where its table describes this filter.
-use Rattle.std.proofs.Common.{◌≡◌, ◌≢◌, ◌≤◌, ◌<◌, ◌∙◌, ℕ, zero, suc, ◌+◌, ℤ, pos, negsuc, ◌-ℤ◌, ◌≤ℤ◌, ◌<ℤ◌, unsigned_abs, Bool, true, false, List, [], ◌∷◌, ◌++◌, length, map, get_or, Option, Some, None, is_some, nat_cmp, Ordering, Less, Equal, Greater, Result, Ok, Err, refl, sym, ap, subst, arith, inl, inr, ◌⊎◌}
+use Rattle.std.proofs.Common.{◌≡◌, ◌≢◌, ◌≤◌, ◌<◌, ◌∙◌, ℕ, zero, suc, ◌+◌, ℤ, pos, negsuc, ◌-ℤ◌, ◌≤ℤ◌, ◌<ℤ◌}
+use Rattle.std.proofs.Common.{unsigned_abs, Bool, true, false, List, [], ◌∷◌, ◌++◌, length, map, get_or, Option}
+use Rattle.std.proofs.Common.{Some, None, is_some, nat_cmp, Ordering, Less, Equal, Greater, Result, Ok, Err}
+use Rattle.std.proofs.Common.{refl, sym, ap, subst, arith, inl, inr, ◌⊎◌}
 use Rattle.std.specs.Prelude.{IsSomeAnd, IsSome, MatchOption, All, nat_lt, nat_le, not, codes}
 use Rattle.std.specs.Int.Signed.{lt_z, le_z, lt_z_no}
 use Rattle.std.specs.Option.{option_map_or}
@@ -13,21 +16,30 @@ use Rattle.std.proofs.lemmas.Int.{ints}
 use Rattle.std.proofs.lemmas.List.Elements.{All-nil, All-cons, All-head, All-tail}
 use Rattle.std.proofs.lemmas.Map.Text.{is_eq-slice_cmp}
 use Rattle.std.proofs.lemmas.Slice.Eq.{bytes_eq-Decides}
-use Rattle.toml.specs.Data.{Data, Members, no_members, member, Items, no_items, item, get_member, as_str, as_integer, as_array, as_table}
+use Rattle.toml.specs.Data.{Data, Members, no_members, member, Items, no_items, item, get_member, as_str}
+use Rattle.toml.specs.Data.{as_integer, as_array, as_table}
 use Rattle.toml.specs.Parse.{parse_document}
 use Rattle.fx_nums.specs.Fraction.{Fraction, is_one, zero_fraction}
 use Rattle.fx_math.specs.Faults.{◌>>=◌, or_fault, unless}
 use Rattle.fx_math.specs.Words.{is_accumulator}
 use Rattle.fx_files.specs.Settings.{Settings, structure_at, structure_in, is_listed, accumulator_in, settings_in}
-use Rattle.fx_files.specs.Lists.{monic, each_monic, polynomial_in, transfer_in, cascade_in, state_rows, matrix_in, space_in, reflections_in, taps_in, ladder_in, coefficients_in}
-use Rattle.fx_files.specs.Describes.{DescribesInput, DescribesOutput, IsNear, HoldsPolynomial, DescribesTransfer, DescribesCascade, DescribesSpace, DescribesLattice, DescribesCoefficients, HoldsStructure, DescribesSettings, HoldsForm, Describes, IsFileOf, FileLaw, DescribesOne}
+use Rattle.fx_files.specs.Lists.{monic, each_monic, polynomial_in, transfer_in, cascade_in, state_rows}
+use Rattle.fx_files.specs.Lists.{matrix_in, space_in, reflections_in, taps_in, ladder_in, coefficients_in}
+use Rattle.fx_files.specs.Describes.{DescribesInput, DescribesOutput, IsNear, HoldsPolynomial}
+use Rattle.fx_files.specs.Describes.{DescribesTransfer, DescribesCascade, DescribesSpace, DescribesLattice}
+use Rattle.fx_files.specs.Describes.{DescribesCoefficients, HoldsStructure, DescribesSettings, HoldsForm}
+use Rattle.fx_files.specs.Describes.{Describes, IsFileOf, FileLaw, DescribesOne}
 use Rattle.fx_keys.specs.Entries.{list_at, item_count, all_tables, some, at_most, exactly}
 use Rattle.fx_files.specs.Head.{form_in, head_in}
-use Rattle.fx_files.specs.Holds.{value_at, HasOnly, Each, IsListOf, IsTableOf, CountFits, HoldsTables, HoldsInteger, HoldsWhole, HoldsNatural, HoldsNaturals, IsNumeralOf, HoldsNumerals, HoldsRows, row_after_row, AreWide, HoldsMatrix}
+use Rattle.fx_files.specs.Holds.{value_at, HasOnly, Each, IsListOf, IsTableOf, CountFits, HoldsTables}
+use Rattle.fx_files.specs.Holds.{HoldsInteger, HoldsWhole, HoldsNatural, HoldsNaturals, IsNumeralOf}
+use Rattle.fx_files.specs.Holds.{HoldsNumerals, HoldsRows, row_after_row, AreWide, HoldsMatrix}
 use Rattle.fx_keys.specs.Keys.{IsWithin, own_name, range_of, most_of, default_of, default_list_of}
 use Rattle.fx_files.specs.Forms.{form_text, form_word, structure_text, structure_word, default_structure, known_keys}
 use Rattle.fx_keys.specs.Numerals.{numeral_at, each_numeral, entries_in, rows_in, matrix}
-use Rattle.fx_files.specs.Ports.{Inputs, Ports, top_word, bounds_of, tables_in, input_in, each_input, inputs_in, error_in, output_in, each_output, outputs_in, ports_in, alone, single, output_fits, outputs_fit}
+use Rattle.fx_files.specs.Ports.{Inputs, Ports, top_word, bounds_of, tables_in, input_in, each_input, inputs_in}
+use Rattle.fx_files.specs.Ports.{error_in, output_in, each_output, outputs_in, ports_in, alone, single}
+use Rattle.fx_files.specs.Ports.{output_fits, outputs_fit}
 use Rattle.fx_files.specs.Reading.{filter_in, filter_of_bytes}
 use Rattle.fx_files.specs.Building.{assembled, equations_of, target_of, with_rows}
 use Rattle.fx_files.specs.Coefficients as coefficients
@@ -37,7 +49,8 @@ use Rattle.fx_files.specs.Fits.{CountsFit}
 use Rattle.fx_keys.specs.Table.{table_at, needed, is_known, only_keys}
 use Rattle.fx_keys.specs.Wholes.{integer_or, whole_or, whole_in, natural_in, naturals_in}
 use Rattle.fx_keys.specs.declared.fault.FilterFault.{FilterFault}
-use Rattle.fx_keys.specs.declared.fault.FilterFault.TheVariants.{NotToml, Missing, WrongKind, UnknownKey, UnknownWord, Limit, Shape, NotMonic}
+use Rattle.fx_keys.specs.declared.fault.FilterFault.TheVariants.{NotToml, Missing, WrongKind, UnknownKey}
+use Rattle.fx_keys.specs.declared.fault.FilterFault.TheVariants.{UnknownWord, Limit, Shape, NotMonic}
 use Rattle.fx_files.specs.declared.formats.InputFormat.{InputFormat}
 use Rattle.fx_files.specs.declared.formats.OutputEntry.{OutputEntry}
 use Rattle.fx_files.specs.declared.formats.OutputFormat.{OutputFormat}
@@ -50,8 +63,13 @@ use Rattle.fx_files.specs.declared.forms.Form.TheVariants as form
 use Rattle.fx_files.specs.declared.forms.Structure.{Structure}
 use Rattle.fx_files.specs.declared.forms.Structure.TheVariants as structure
 use Rattle.fx_files.proofs.Steps.{and_some, bind_ok, bind_stands, fault_ok, ok_stands, same_ok, some_and, unless_ok}
-use Rattle.fx_files.proofs.HeldNumbers.{count_of, count_read, few_test, integer_read, integer_stands, natural_read, natural_stands, naturals_read, naturals_stand, not_below, some_test, sure_no, whole_read, whole_stands}
-use Rattle.fx_files.proofs.HeldNumerals.{AreRows, IsListed, entries_listed, entries_numerals, exact_count, exact_test, list_of, listed, listed_entries, listed_rows, matrix_read, matrix_stands, numeral_read, numeral_stands, numerals_entries, rows_listed}
+use Rattle.fx_files.proofs.HeldNumbers.{count_of, count_read, few_test, integer_read, integer_stands}
+use Rattle.fx_files.proofs.HeldNumbers.{natural_read, natural_stands, naturals_read, naturals_stand, not_below}
+use Rattle.fx_files.proofs.HeldNumbers.{some_test, sure_no, whole_read, whole_stands}
+use Rattle.fx_files.proofs.HeldNumerals.{AreRows, IsListed, entries_listed, entries_numerals, exact_count}
+use Rattle.fx_files.proofs.HeldNumerals.{exact_test, list_of, listed, listed_entries, listed_rows, matrix_read}
+use Rattle.fx_files.proofs.HeldNumerals.{matrix_stands, numeral_read, numeral_stands, numerals_entries}
+use Rattle.fx_files.proofs.HeldNumerals.{rows_listed}
 use Rattle.fx_eqs.specs.Equations.{Equations}
 use Rattle.fx_eqs.specs.Textbook.{up_from}
 use Rattle.fx_files.proofs.HeldChoices.{head_read, head_stands, settings_read, settings_stand}
@@ -63,7 +81,8 @@ use Rattle.fx_files.proofs.HeldTables.{DescribesEntry, PortsHeld, not_true, port
 one_only : (n : ℕ) → 1 ≤ n → nat_le n 1 ≡ true → n ≡ 1
 one_only n some h = grind (arith, nat_tests)
 
-single_pair : (m p : ℕ) (u : Unit {0}) → 1 ≤ m → 1 ≤ p → (alone key.Inputs m >>= (λ v. alone key.Outputs p)) ≡ Ok u → (m ≡ 1) × (p ≡ 1)
+single_pair : (m p : ℕ) (u : Unit {0}) → 1 ≤ m → 1 ≤ p →
+    (alone key.Inputs m >>= (λ v. alone key.Outputs p)) ≡ Ok u → (m ≡ 1) × (p ≡ 1)
 single_pair m p u a b h =
     let (v, first, second) = bind_ok (alone key.Inputs m) (λ v. alone key.Outputs p) u h in
     (one_only m a (unless_ok _ _ v first), one_only p b (unless_ok _ _ u second))
@@ -101,7 +120,8 @@ count_entries : (os : List OutputFormat) → length (map entry_of os) ≡ length
 count_entries [] = refl
 count_entries (o ∷ os) = ap suc (count_entries os)
 
-outputs_described : (low : ℤ) (rows : List ℕ) (os : List OutputEntry) (vs : Items) → length rows ≡ length os → Each (IsTableOf (DescribesEntry low)) os vs → Each (IsTableOf (DescribesOutput low)) (with_rows rows os) vs
+outputs_described : (low : ℤ) (rows : List ℕ) (os : List OutputEntry) (vs : Items) → length rows ≡ length os →
+    Each (IsTableOf (DescribesEntry low)) os vs → Each (IsTableOf (DescribesOutput low)) (with_rows rows os) vs
 unfolding with_rows
 outputs_described low [] [] no_items count h = tt
 outputs_described low (r ∷ rs) [] vs count h = absurd (omega arith)
@@ -110,23 +130,43 @@ outputs_described low [] [] (item v vs) count h = absurd h
 outputs_described low (r ∷ rs) (o ∷ os) no_items count h = absurd h
 outputs_described low (r ∷ rs) (o ∷ os) (item v vs) count h =
     let (t, there, e) = some_and (as_table v) (λ t. DescribesEntry low t o) h.0 in
-    let out : OutputFormat = record { row = r; width = o.width; low = o.low; error = o.error; target = target_of o.error } in (
-      and_some (as_table v) (λ t. DescribesOutput low t out) t there (record { keys = e.keys; width = e.width; low = e.low; error = e.error; not_negative = e.not_negative; target = refl }),
+    let out : OutputFormat =
+    record { row = r; width = o.width; low = o.low; error = o.error; target = target_of o.error } in (
+      and_some (as_table v) (λ t. DescribesOutput low t out) t there
+          (record {
+            keys = e.keys;
+            width = e.width;
+            low = e.low;
+            error = e.error;
+            not_negative =
+                e.not_negative;
+            target = refl;
+          }),
       outputs_described low rs os vs (omega arith) h.1,
     )
 
-entries_described : (low : ℤ) (os : List OutputFormat) (vs : Items) → Each (IsTableOf (DescribesOutput low)) os vs → Each (IsTableOf (DescribesEntry low)) (map entry_of os) vs
+entries_described : (low : ℤ) (os : List OutputFormat) (vs : Items) →
+    Each (IsTableOf (DescribesOutput low)) os vs → Each (IsTableOf (DescribesEntry low)) (map entry_of os) vs
 unfolding entry_of
 entries_described low [] no_items h = tt
 entries_described low [] (item v vs) h = absurd h
 entries_described low (o ∷ os) no_items h = absurd h
 entries_described low (o ∷ os) (item v vs) h =
     let (t, there, e) = some_and (as_table v) (λ t. DescribesOutput low t o) h.0 in (
-      and_some (as_table v) (λ t. DescribesEntry low t (entry_of o)) t there (record { keys = e.keys; width = e.width; low = e.low; error = e.error; not_negative = e.not_negative }),
+      and_some (as_table v) (λ t. DescribesEntry low t (entry_of o)) t there
+          (record {
+            keys = e.keys;
+            width = e.width;
+            low = e.low;
+            error = e.error;
+            not_negative =
+                e.not_negative;
+          }),
       entries_described low os vs h.1,
     )
 
-rows_again : (low : ℤ) (os : List OutputFormat) (vs : Items) → Each (IsTableOf (DescribesOutput low)) os vs → with_rows (map (λ (o : OutputFormat). o.row) os) (map entry_of os) ≡ os
+rows_again : (low : ℤ) (os : List OutputFormat) (vs : Items) → Each (IsTableOf (DescribesOutput low)) os vs →
+    with_rows (map (λ (o : OutputFormat). o.row) os) (map entry_of os) ≡ os
 unfolding with_rows entry_of
 rows_again low [] no_items h = refl
 rows_again low [] (item v vs) h = absurd h
@@ -134,10 +174,18 @@ rows_again low (o ∷ os) no_items h = absurd h
 rows_again low (o ∷ os) (item v vs) h =
     let (t, there, e) = some_and (as_table v) (λ t. DescribesOutput low t o) h.0 in
     let target : target_of o.error ≡ o.target = sym e.target in
-    ap (λ (x : ℤ). record { row = o.row; width = o.width; low = o.low; error = o.error; target = x } ∷ with_rows (map (λ (o : OutputFormat). o.row) os) (map entry_of os)) target
+    ap (λ (x : ℤ). record {
+      row = o.row;
+      width = o.width;
+      low = o.low;
+      error = o.error;
+      target =
+          x;
+    } ∷ with_rows (map (λ (o : OutputFormat). o.row) os) (map entry_of os)) target
     ∙ ap (λ (x : List OutputFormat). o ∷ x) (rows_again low os vs h.1)
 
-rows_of : (rs : List ℕ) (os : List OutputEntry) → length rs ≡ length os → rs ≡ map (λ (o : OutputFormat). o.row) (with_rows rs os)
+rows_of : (rs : List ℕ) (os : List OutputEntry) → length rs ≡ length os →
+    rs ≡ map (λ (o : OutputFormat). o.row) (with_rows rs os)
 unfolding with_rows
 rows_of [] [] h = refl
 rows_of [] (o ∷ os) h = absurd (omega arith)
@@ -153,14 +201,31 @@ count_with_rows (r ∷ rs) (o ∷ os) h = ap suc (count_with_rows rs os (omega a
 
 -- ---- outputs beside the inputs
 
-near_read : (low : ℤ) (bits r : ℕ) (o : OutputEntry) (u : Unit {0}) → output_fits low bits o ≡ Ok u → IsNear low bits (record { row = r; width = o.width; low = o.low; error = o.error; target = target_of o.error })
+near_read : (low : ℤ) (bits r : ℕ) (o : OutputEntry) (u : Unit {0}) → output_fits low bits o ≡ Ok u →
+    IsNear low bits (record {
+      row = r;
+      width = o.width;
+      low = o.low;
+      error = o.error;
+      target =
+          target_of o.error;
+    })
 near_read low bits r o u h =
     let d = low -ℤ o.low in
-    let (u1, below, h1) = bind_ok (unless (Limit key.OutputsLow d LOW_DIFFERENCES.low) (not (lt_z d LOW_DIFFERENCES.low))) _ u h in
-    let (u2, above, wide) = bind_ok (unless (Limit key.OutputsLow d LOW_DIFFERENCES.high) (not (lt_z LOW_DIFFERENCES.high d))) _ u h1 in
+    let (u1, below, h1) = bind_ok
+    (unless (Limit key.OutputsLow d LOW_DIFFERENCES.low) (not (lt_z d LOW_DIFFERENCES.low))) _ u h in
+    let (u2, above, wide) = bind_ok
+    (unless (Limit key.OutputsLow d LOW_DIFFERENCES.high) (not (lt_z LOW_DIFFERENCES.high d))) _ u h1 in
     let test = unless_ok _ _ u wide in
     record {
-      low = (lt_z_no {a = d} {b = LOW_DIFFERENCES.low} (sure_no (lt_z d LOW_DIFFERENCES.low) (not_true (lt_z d LOW_DIFFERENCES.low) (unless_ok _ _ u1 below))), lt_z_no {a = LOW_DIFFERENCES.high} {b = d} (sure_no (lt_z LOW_DIFFERENCES.high d) (not_true (lt_z LOW_DIFFERENCES.high d) (unless_ok _ _ u2 above))));
+      low = (
+        lt_z_no {a = d} {b =
+            LOW_DIFFERENCES.low} (sure_no (lt_z d LOW_DIFFERENCES.low)
+            (not_true (lt_z d LOW_DIFFERENCES.low) (unless_ok _ _ u1 below))),
+        lt_z_no {a = LOW_DIFFERENCES.high} {b =
+            d} (sure_no (lt_z LOW_DIFFERENCES.high d)
+            (not_true (lt_z LOW_DIFFERENCES.high d) (unless_ok _ _ u2 above))),
+      );
       width = grind (arith, nat_tests);
     }
 
@@ -168,27 +233,47 @@ near_stands : (low : ℤ) (bits : ℕ) (o : OutputFormat) → IsNear low bits o 
 unfolding entry_of
 near_stands low bits o h =
     let d = low -ℤ o.low in
-    rw (not_below LOW_DIFFERENCES.low d h.low.0, not_below d LOW_DIFFERENCES.high h.low.1, few_test o.width bits h.width) refl
+    rw (
+      not_below LOW_DIFFERENCES.low d h.low.0,
+      not_below d LOW_DIFFERENCES.high h.low.1,
+      few_test o.width bits h.width,
+    ) refl
 
-all_near : (low : ℤ) (bits : ℕ) (rs : List ℕ) (os : List OutputEntry) (u : Unit {0}) → length rs ≡ length os → outputs_fit low bits os ≡ Ok u → All (IsNear low bits) (with_rows rs os)
+all_near : (low : ℤ) (bits : ℕ) (rs : List ℕ) (os : List OutputEntry) (u : Unit {0}) → length rs ≡ length os →
+    outputs_fit low bits os ≡ Ok u → All (IsNear low bits) (with_rows rs os)
 unfolding with_rows outputs_fit
 all_near low bits [] [] u count h = All-nil (IsNear low bits)
 all_near low bits [] (o ∷ os) u count h = absurd (omega arith)
 all_near low bits (r ∷ rs) [] u count h = absurd (omega arith)
 all_near low bits (r ∷ rs) (o ∷ os) u count h =
     let (v, first, others) = bind_ok (output_fits low bits o) (λ v. outputs_fit low bits os) u h in
-    All-cons (IsNear low bits) (record { row = r; width = o.width; low = o.low; error = o.error; target = target_of o.error }) (with_rows rs os) (near_read low bits r o v first) (all_near low bits rs os u (omega arith) others)
+    All-cons (IsNear low bits) (record {
+      row = r;
+      width = o.width;
+      low = o.low;
+      error = o.error;
+      target =
+          target_of o.error;
+    }) (with_rows rs os) (near_read low bits r o v first)
+    (all_near low bits rs os u (omega arith) others)
 
-near_all : (low : ℤ) (bits : ℕ) (os : List OutputFormat) → All (IsNear low bits) os → outputs_fit low bits (map entry_of os) ≡ Ok tt
+near_all : (low : ℤ) (bits : ℕ) (os : List OutputFormat) → All (IsNear low bits) os →
+    outputs_fit low bits (map entry_of os) ≡ Ok tt
 unfolding outputs_fit
 near_all low bits [] h = refl
-near_all low bits (o ∷ os) h = rw (near_stands low bits o (All-head (IsNear low bits) o os h)) (near_all low bits os (All-tail (IsNear low bits) o os h))
+near_all low bits (o ∷ os) h =
+    rw (near_stands low bits o (All-head (IsNear low bits) o os h))
+    (near_all low bits os (All-tail (IsNear low bits) o os h))
 
 -- ---- the whole filter
 
 assembled_described : (t : Members) (ports : Ports) (c : Coefficients) (settings : Settings) (u v : Unit {0}) →
-    HoldsForm t (form_of c) → HasOnly (known_keys (form_of c)) t → PortsHeld t ports → DescribesCoefficients (length ports.inputs.formats) (length ports.outputs) t c → DescribesSettings (form_of c) t settings →
-    single (form_of c) (length ports.inputs.formats) (length ports.outputs) ≡ Ok u → outputs_fit ports.inputs.low settings.accumulator ports.outputs ≡ Ok v → Describes t (assembled ports c settings)
+    HoldsForm t (form_of c) → HasOnly (known_keys (form_of c)) t → PortsHeld t ports →
+    DescribesCoefficients (length ports.inputs.formats) (length ports.outputs) t c →
+    DescribesSettings (form_of c) t settings →
+    single (form_of c) (length ports.inputs.formats) (length ports.outputs) ≡ Ok u →
+    outputs_fit ports.inputs.low settings.accumulator ports.outputs ≡ Ok v →
+    Describes t (assembled ports c settings)
 unfolding assembled
 assembled_described t ports c settings u v named keys held described chosen one near =
     let m = length ports.inputs.formats in
@@ -205,7 +290,13 @@ assembled_described t ports c settings u v named keys held described chosen one 
       keys = keys;
       input_low = held.low;
       inputs = held.inputs;
-      outputs = record { held = listed (IsTableOf (DescribesOutput low)) outs key.Outputs t vs list (outputs_described low rows ports.outputs vs count each); count = subst (CountFits key.Outputs) (sym long) held.outputs.count };
+      outputs = record {
+        held =
+            listed (IsTableOf (DescribesOutput low)) outs key.Outputs t vs list
+            (outputs_described low rows ports.outputs vs count each);
+        count =
+            subst (CountFits key.Outputs) (sym long) held.outputs.count;
+      };
       coefficients = subst (λ (n : ℕ). DescribesCoefficients m n t c) (sym long) described;
       settings = chosen;
       counts = subst (λ (n : ℕ). CountsFit (form_of c) m n) (sym long) fit;
@@ -215,14 +306,21 @@ assembled_described t ports c settings u v named keys held described chosen one 
     }
 
 -- the form that stands first is that of the coefficients
-filter_of_form : (t : Members) (form : Form) (ports : Ports) (c : Coefficients) (settings : Settings) (u v : Unit {0}) → form ≡ form_of c →
-    HoldsForm t form × HasOnly (known_keys form) t → PortsHeld t ports → DescribesCoefficients (length ports.inputs.formats) (length ports.outputs) t c → DescribesSettings form t settings →
-    single form (length ports.inputs.formats) (length ports.outputs) ≡ Ok u → outputs_fit ports.inputs.low settings.accumulator ports.outputs ≡ Ok v → Describes t (assembled ports c settings)
+filter_of_form : (t : Members) (form : Form) (ports : Ports) (c : Coefficients) (settings : Settings)
+    (u v : Unit {0}) → form ≡ form_of c →
+    HoldsForm t form × HasOnly (known_keys form) t → PortsHeld t ports →
+    DescribesCoefficients (length ports.inputs.formats) (length ports.outputs) t c →
+    DescribesSettings form t settings →
+    single form (length ports.inputs.formats) (length ports.outputs) ≡ Ok u →
+    outputs_fit ports.inputs.low settings.accumulator ports.outputs ≡ Ok v →
+    Describes t (assembled ports c settings)
 filter_of_form t form ports c settings u v is head held described chosen one near =
     let m = length ports.inputs.formats in
     let p = length ports.outputs in
     let (named, keys) = subst (λ (x : Form). HoldsForm t x × HasOnly (known_keys x) t) is head in
-    assembled_described t ports c settings u v named keys held described (subst (λ (x : Form). DescribesSettings x t settings) is chosen) (subst (λ (x : Form). single x m p ≡ Ok u) is one) near
+    assembled_described t ports c settings u v named keys held described
+    (subst (λ (x : Form). DescribesSettings x t settings) is chosen)
+    (subst (λ (x : Form). single x m p ≡ Ok u) is one) near
 
 pub filter_read : (t : Members) (f : Filter) → filter_in t ≡ Ok f → Describes t f
 unfolding filter_in
@@ -232,10 +330,14 @@ filter_read t f h =
     let (c, lists, h3) = bind_ok (coefficients_in form (length ports.inputs.formats) (length ports.outputs) t) _ f h2 in
     let (settings, chosen, h4) = bind_ok (settings_in form t) _ f h3 in
     let (u, one, h5) = bind_ok (single form (length ports.inputs.formats) (length ports.outputs)) _ f h4 in
-    let (v, near, same) = bind_ok (outputs_fit ports.inputs.low settings.accumulator ports.outputs) (λ v. Ok (assembled ports c settings)) f h5 in
+    let (v, near, same) = bind_ok (outputs_fit ports.inputs.low settings.accumulator ports.outputs) (λ v.
+    Ok (assembled ports c settings)) f h5 in
     subst (Describes t) (same_ok (assembled ports c settings) f same)
-    (filter_of_form t form ports c settings u v (read_as form (length ports.inputs.formats) (length ports.outputs) t c lists) (head_read t form head) (ports_read t ports both)
-    (coefficients_read form (length ports.inputs.formats) (length ports.outputs) t c lists) (settings_read form t settings chosen) one near)
+    (filter_of_form t form ports c settings u v
+    (read_as form (length ports.inputs.formats) (length ports.outputs) t c lists) (head_read t form head)
+    (ports_read t ports both)
+    (coefficients_read form (length ports.inputs.formats) (length ports.outputs) t c lists)
+    (settings_read form t settings chosen) one near)
 
 -- the parts of a filter as a table gives them
 parts_of : Filter → Ports
@@ -248,10 +350,22 @@ same_filter t f d =
     let m = length f.inputs in
     let count : length entries ≡ length f.outputs = count_entries f.outputs in
     let (vs, list, each) = list_of (IsTableOf (DescribesOutput f.input_low)) f.outputs key.Outputs t d.outputs.held in
-    let equations : equations_of m (length entries) f.coefficients ≡ f.equations = ap (λ (n : ℕ). equations_of m n f.coefficients) count ∙ sym d.equations in
-    let outputs : with_rows f.equations.outputs entries ≡ f.outputs = ap (λ (rs : List ℕ). with_rows rs entries) d.rows ∙ rows_again f.input_low f.outputs vs each in
-    let built : Equations → List OutputFormat → Filter = λ e os. record { input_low = f.input_low; inputs = f.inputs; outputs = os; coefficients = f.coefficients; settings = f.settings; equations = e } in
-    ap (λ (e : Equations). built e (with_rows e.outputs entries)) equations ∙ ap (λ (os : List OutputFormat). built f.equations os) outputs
+    let equations : equations_of m (length entries) f.coefficients ≡ f.equations =
+    ap (λ (n : ℕ). equations_of m n f.coefficients) count ∙ sym d.equations in
+    let outputs : with_rows f.equations.outputs entries ≡ f.outputs =
+    ap (λ (rs : List ℕ). with_rows rs entries) d.rows ∙ rows_again f.input_low f.outputs vs each in
+    let built : Equations → List OutputFormat → Filter =
+    λ e os. record {
+      input_low = f.input_low;
+      inputs = f.inputs;
+      outputs = os;
+      coefficients =
+          f.coefficients;
+      settings = f.settings;
+      equations = e;
+    } in
+    ap (λ (e : Equations). built e (with_rows e.outputs entries)) equations
+    ∙ ap (λ (os : List OutputFormat). built f.equations os) outputs
 
 ports_held : (t : Members) (f : Filter) → Describes t f → PortsHeld t (parts_of f)
 unfolding parts_of
@@ -261,7 +375,13 @@ ports_held t f d =
     record {
       low = d.input_low;
       inputs = d.inputs;
-      outputs = record { held = listed (IsTableOf (DescribesEntry f.input_low)) entries key.Outputs t vs list (entries_described f.input_low f.outputs vs each); count = subst (CountFits key.Outputs) (sym (count_entries f.outputs)) d.outputs.count };
+      outputs = record {
+        held =
+            listed (IsTableOf (DescribesEntry f.input_low)) entries key.Outputs t vs list
+            (entries_described f.input_low f.outputs vs each);
+        count =
+            subst (CountFits key.Outputs) (sym (count_entries f.outputs)) d.outputs.count;
+      };
     }
 
 pub filter_stands : (t : Members) (f : Filter) → Describes t f → filter_in t ≡ Ok f
@@ -273,20 +393,32 @@ filter_stands t f d =
     let count : p ≡ length f.outputs = count_entries f.outputs in
     let ports : ports_in t ≡ Ok (parts_of f) = ports_stand t (parts_of f) (ports_held t f d) in
     let some : 1 ≤ p = rw count d.outputs.count.some in
-    let lists : coefficients_in form m p t ≡ Ok f.coefficients = coefficients_stand m p t f.coefficients some (subst (λ (n : ℕ). DescribesCoefficients m n t f.coefficients) (sym count) d.coefficients) in
-    let one : single form m p ≡ Ok tt = single_stands form m p (subst (λ (n : ℕ). CountsFit form m n) (sym count) d.counts) in
+    let lists : coefficients_in form m p t ≡ Ok f.coefficients =
+    coefficients_stand m p t f.coefficients some (subst (λ (n : ℕ).
+    DescribesCoefficients m n t f.coefficients) (sym count) d.coefficients) in
+    let one : single form m p ≡ Ok tt =
+    single_stands form m p (subst (λ (n : ℕ). CountsFit form m n) (sym count) d.counts) in
     let near = near_all f.input_low f.settings.accumulator f.outputs d.near in
-    rw (head_stands t form d.form d.keys, ports, lists, settings_stand form t f.settings d.settings, one, near) (ap (λ (x : Filter). Ok x) (same_filter t f d))
+    rw (
+      head_stands t form d.form d.keys,
+      ports,
+      lists,
+      settings_stand form t f.settings d.settings,
+      one,
+      near,
+    ) (ap (λ (x : Filter). Ok x) (same_filter t f d))
 
 -- ---- bytes
 
-table_read : (bytes : List ℕ) (t : Members) → table_at bytes ≡ Ok t → (is_utf8 bytes ≡ true) × (parse_document bytes ≡ Some t)
+table_read : (bytes : List ℕ) (t : Members) → table_at bytes ≡ Ok t →
+    (is_utf8 bytes ≡ true) × (parse_document bytes ≡ Some t)
 table_read bytes t h = elim (cases_Bool (is_utf8 bytes)) [
   | inl is ↦ (is, fault_ok NotToml (parse_document bytes) t (rw is at h))
   | inr other ↦ absurd (let e : ◌≡◌ {A = Result Members FilterFault} (Err NotToml) (Ok t) = rw other at h in cc)
 ]
 
-table_stands : (bytes : List ℕ) (t : Members) → is_utf8 bytes ≡ true → parse_document bytes ≡ Some t → table_at bytes ≡ Ok t
+table_stands : (bytes : List ℕ) (t : Members) → is_utf8 bytes ≡ true → parse_document bytes ≡ Some t →
+    table_at bytes ≡ Ok t
 table_stands bytes t is parsed = rw is (ok_stands NotToml (parse_document bytes) t parsed)
 
 file_read : (bytes : List ℕ) (f : Filter) → filter_of_bytes bytes ≡ Ok f → IsFileOf bytes f
@@ -298,10 +430,12 @@ file_read bytes f h =
 
 file_stands : (bytes : List ℕ) (f : Filter) → IsFileOf bytes f → filter_of_bytes bytes ≡ Ok f
 unfolding filter_of_bytes
-file_stands bytes f h = bind_stands (table_at bytes) filter_in h.table f (table_stands bytes h.table h.text h.parsed) (filter_stands h.table f h.described)
+file_stands bytes f h = bind_stands (table_at bytes) filter_in h.table f
+    (table_stands bytes h.table h.text h.parsed) (filter_stands h.table f h.described)
 
 pub file_law : FileLaw
 file_law bytes f = (file_read bytes f, file_stands bytes f)
 
 pub describes_one : DescribesOne
-describes_one t f g d e = let same : ◌≡◌ {A = Result Filter FilterFault} (Ok f) (Ok g) = sym (filter_stands t f d) ∙ filter_stands t g e in same_ok f g same
+describes_one t f g d e = let same : ◌≡◌ {A = Result Filter FilterFault} (Ok f) (Ok g) =
+    sym (filter_stands t f d) ∙ filter_stands t g e in same_ok f g same

@@ -1,5 +1,7 @@
 -- Whole numbers, alone and in lists, are read exactly where a table holds them.
-use Rattle.std.proofs.Common.{◌≡◌, ◌≢◌, ◌≤◌, ◌<◌, ◌∙◌, ℕ, zero, suc, ◌+◌, ℤ, pos, negsuc, ◌≤ℤ◌, ◌<ℤ◌, unsigned_abs, Bool, true, false, List, [], ◌∷◌, ◌++◌, length, Option, Some, None, is_some, Result, Ok, Err, refl, sym, ap, subst, arith, inl, inr, ◌⊎◌}
+use Rattle.std.proofs.Common.{◌≡◌, ◌≢◌, ◌≤◌, ◌<◌, ◌∙◌, ℕ, zero, suc, ◌+◌, ℤ, pos, negsuc, ◌≤ℤ◌, ◌<ℤ◌}
+use Rattle.std.proofs.Common.{unsigned_abs, Bool, true, false, List, [], ◌∷◌, ◌++◌, length, Option, Some, None}
+use Rattle.std.proofs.Common.{is_some, Result, Ok, Err, refl, sym, ap, subst, arith, inl, inr, ◌⊎◌}
 use Rattle.std.specs.Prelude.{IsSomeAnd, MatchOption, nat_lt, nat_le, T, not}
 use Rattle.std.specs.Int.Signed.{lt_z, lt_z_yes, lt_z_no}
 use Rattle.std.specs.Option.{option_map_or}
@@ -14,11 +16,15 @@ use Rattle.fx_decimal.specs.declared.fault.DecimalFault.{DecimalFault}
 use Rattle.fx_decimal.proofs.ReadingLaws.{numeral_law}
 use Rattle.fx_math.specs.Faults.{◌>>=◌, or_fault, unless}
 use Rattle.fx_keys.specs.Entries.{list_at, item_count, some, at_most, exactly}
-use Rattle.fx_files.specs.Holds.{value_at, Each, IsListOf, CountFits, HoldsInteger, HoldsWhole, HoldsNatural, IsNaturalOf, AreNaturals, HoldsNaturals, IsNumeralOf, HoldsNumerals, HoldsRows, row_after_row, AreWide, HoldsMatrix}
+use Rattle.fx_files.specs.Holds.{value_at, Each, IsListOf, CountFits, HoldsInteger, HoldsWhole, HoldsNatural}
+use Rattle.fx_files.specs.Holds.{IsNaturalOf, AreNaturals, HoldsNaturals, IsNumeralOf, HoldsNumerals, HoldsRows}
+use Rattle.fx_files.specs.Holds.{row_after_row, AreWide, HoldsMatrix}
 use Rattle.fx_keys.specs.Keys.{IsWithin, own_name, range_of, most_of, default_of, default_list_of}
-use Rattle.fx_keys.specs.Numerals.{numeral_text, in_place, numeral_at, all_numerals, each_numeral, entries_in, all_rows, rows_in, row_of, each_exactly, each_row, matrix}
+use Rattle.fx_keys.specs.Numerals.{numeral_text, in_place, numeral_at, all_numerals, each_numeral, entries_in}
+use Rattle.fx_keys.specs.Numerals.{all_rows, rows_in, row_of, each_exactly, each_row, matrix}
 use Rattle.fx_keys.specs.Table.{needed}
-use Rattle.fx_keys.specs.Wholes.{integer_at, integer_or, ranged, whole_or, whole_in, natural_in, all_whole, natural_at, each_natural, naturals, naturals_in}
+use Rattle.fx_keys.specs.Wholes.{integer_at, integer_or, ranged, whole_or, whole_in, natural_in, all_whole}
+use Rattle.fx_keys.specs.Wholes.{natural_at, each_natural, naturals, naturals_in}
 use Rattle.fx_keys.specs.declared.fault.FilterFault.{FilterFault}
 use Rattle.fx_keys.specs.declared.fault.FilterFault.TheVariants.{Missing, WrongKind, Limit}
 use Rattle.fx_keys.specs.declared.key.Key.{Key}
@@ -27,18 +33,24 @@ use Rattle.fx_files.proofs.Steps.{and_some, bind_ok, bind_stands, fault_ok, ok_s
 
 -- ---- whole numbers
 
-integer_here : (k : Key) (default : Option ℤ) (o : Option Data) (z : ℤ) → option_map_or (integer_at k) o (or_fault (Missing k) default) ≡ Ok z → MatchOption o (default ≡ Some z) (λ v. as_integer v ≡ Some z)
+integer_here : (k : Key) (default : Option ℤ) (o : Option Data) (z : ℤ) →
+    option_map_or (integer_at k) o (or_fault (Missing k) default) ≡ Ok z →
+    MatchOption o (default ≡ Some z) (λ v. as_integer v ≡ Some z)
 integer_here k default None z h = fault_ok (Missing k) default z h
 integer_here k default (Some v) z h = fault_ok (WrongKind k) (as_integer v) z h
 
-here_integer : (k : Key) (default : Option ℤ) (o : Option Data) (z : ℤ) → MatchOption o (default ≡ Some z) (λ v. as_integer v ≡ Some z) → option_map_or (integer_at k) o (or_fault (Missing k) default) ≡ Ok z
+here_integer : (k : Key) (default : Option ℤ) (o : Option Data) (z : ℤ) →
+    MatchOption o (default ≡ Some z) (λ v. as_integer v ≡ Some z) →
+    option_map_or (integer_at k) o (or_fault (Missing k) default) ≡ Ok z
 here_integer k default None z h = ok_stands (Missing k) default z h
 here_integer k default (Some v) z h = ok_stands (WrongKind k) (as_integer v) z h
 
-pub integer_read : (k : Key) (default : Option ℤ) (t : Members) (z : ℤ) → integer_or k default t ≡ Ok z → HoldsInteger k default t z
+pub integer_read : (k : Key) (default : Option ℤ) (t : Members) (z : ℤ) → integer_or k default t ≡ Ok z →
+    HoldsInteger k default t z
 integer_read k default t z h = integer_here k default (value_at k t) z h
 
-pub integer_stands : (k : Key) (default : Option ℤ) (t : Members) (z : ℤ) → HoldsInteger k default t z → integer_or k default t ≡ Ok z
+pub integer_stands : (k : Key) (default : Option ℤ) (t : Members) (z : ℤ) → HoldsInteger k default t z →
+    integer_or k default t ≡ Ok z
 integer_stands k default t z h = here_integer k default (value_at k t) z h
 
 pub sure_no : (b : Bool) → b ≡ false → T (not b)
@@ -53,7 +65,8 @@ pub ranged_read : (k : Key) (range : Range) (z x : ℤ) → ranged k range z ≡
 ranged_read k range z x h = elim (cases_Bool (lt_z z range.low)) [
   | inl below ↦ absurd (let e : ◌≡◌ {A = Result ℤ FilterFault} (Err (Limit k z range.low)) (Ok x) = rw below at h in cc)
   | inr low ↦ elim (cases_Bool (lt_z range.high z)) [
-    | inl above ↦ absurd (let e : ◌≡◌ {A = Result ℤ FilterFault} (Err (Limit k z range.high)) (Ok x) = rw (low, above) at h in cc)
+    | inl above ↦ absurd (let e : ◌≡◌ {A = Result ℤ FilterFault} (Err (Limit k z range.high)) (Ok x) =
+        rw (low, above) at h in cc)
     | inr high ↦
         let e : ◌≡◌ {A = Result ℤ FilterFault} (Ok z) (Ok x) = rw (low, high) at h in
         (same_ok z x e, (lt_z_no (sure_no (lt_z z range.low) low), lt_z_no (sure_no (lt_z range.high z) high)))
@@ -69,21 +82,26 @@ not_below a b h = elim (cases_Bool (lt_z b a)) [
 pub ranged_stands : (k : Key) (range : Range) (z : ℤ) → IsWithin range z → ranged k range z ≡ Ok z
 ranged_stands k range z h = rw (not_below range.low z h.0, not_below z range.high h.1) refl
 
-pub whole_read : (k : Key) (range : Range) (default : Option ℤ) (t : Members) (z : ℤ) → whole_or k range default t ≡ Ok z → HoldsWhole k range default t z
+pub whole_read : (k : Key) (range : Range) (default : Option ℤ) (t : Members) (z : ℤ) →
+    whole_or k range default t ≡ Ok z → HoldsWhole k range default t z
 whole_read k range default t z h =
     let (x, number, in_range) = bind_ok (integer_or k default t) (ranged k range) z h in
     let (same, within) = ranged_read k range x z in_range in
     subst (HoldsWhole k range default t) same (record { number = integer_read k default t x number; within = within })
 
-pub whole_stands : (k : Key) (range : Range) (default : Option ℤ) (t : Members) (z : ℤ) → HoldsWhole k range default t z → whole_or k range default t ≡ Ok z
-whole_stands k range default t z h = bind_stands (integer_or k default t) (ranged k range) z z (integer_stands k default t z h.number) (ranged_stands k range z h.within)
+pub whole_stands : (k : Key) (range : Range) (default : Option ℤ) (t : Members) (z : ℤ) →
+    HoldsWhole k range default t z → whole_or k range default t ≡ Ok z
+whole_stands k range default t z h =
+    bind_stands (integer_or k default t) (ranged k range) z z (integer_stands k default t z h.number)
+    (ranged_stands k range z h.within)
 
 -- a number that is not below 0 is its magnitude
 magnitude : (z : ℤ) (n : ℕ) → pos 0 ≤ℤ z → unsigned_abs z ≡ n → z ≡ pos n
 magnitude (pos m) n h e = ap pos e
 magnitude (negsuc m) n h e = absurd (omega (arith, ints))
 
-pub natural_read : (k : Key) (t : Members) (n : ℕ) → pos 0 ≤ℤ (range_of k).low → natural_in k t ≡ Ok n → HoldsNatural k t n
+pub natural_read : (k : Key) (t : Members) (n : ℕ) → pos 0 ≤ℤ (range_of k).low → natural_in k t ≡ Ok n →
+    HoldsNatural k t n
 natural_read k t n low h =
     let (z, whole, same) = bind_ok (whole_in k t) (λ z. Ok (unsigned_abs z)) n h in
     let held = whole_read k (range_of k) (default_of k) t z whole in
@@ -96,7 +114,8 @@ natural_stands k t n h = rw (whole_stands k (range_of k) (default_of k) t (pos n
 
 -- ---- lists of whole numbers
 
-pub count_of : {A : Type 0} (says : A → Data → Type 0) (xs : List A) (vs : Items) → Each says xs vs → item_count vs ≡ length xs
+pub count_of : {A : Type 0} (says : A → Data → Type 0) (xs : List A) (vs : Items) → Each says xs vs →
+    item_count vs ≡ length xs
 unfolding item_count
 count_of says [] no_items h = refl
 count_of says [] (item v vs) h = absurd h
@@ -119,18 +138,27 @@ number_read k v n low h =
     let (e, within) = ranged_read k (range_of k) z x in_range in
     let above : pos 0 ≤ℤ z = omega (arith, ints, within.0) in
     let is : z ≡ pos n = magnitude z n above (rw e (same_ok (unsigned_abs x) n same)) in
-    record { number = fault_ok (WrongKind k) (as_integer v) z number ∙ ap (λ (y : ℤ). Some y) is; within = subst (λ (y : ℤ). IsWithin (range_of k) y) is within }
+    record {
+      number = fault_ok (WrongKind k) (as_integer v) z number ∙ ap (λ (y : ℤ). Some y) is;
+      within =
+          subst (λ (y : ℤ). IsWithin (range_of k) y) is within;
+    }
 
 number_stands : (k : Key) (v : Data) (n : ℕ) → IsNaturalOf k n v → natural_at k v ≡ Ok n
-number_stands k v n h = rw (ok_stands (WrongKind k) (as_integer v) (pos n) h.number, ranged_stands k (range_of k) (pos n) h.within) refl
+number_stands k v n h = rw (
+  ok_stands (WrongKind k) (as_integer v) (pos n) h.number,
+  ranged_stands k (range_of k) (pos n) h.within,
+) refl
 
-naturals_entries : (k : Key) (vs : Items) (ns : List ℕ) → pos 0 ≤ℤ (range_of k).low → each_natural k vs ≡ Ok ns → Each (IsNaturalOf k) ns vs
+naturals_entries : (k : Key) (vs : Items) (ns : List ℕ) → pos 0 ≤ℤ (range_of k).low →
+    each_natural k vs ≡ Ok ns → Each (IsNaturalOf k) ns vs
 unfolding each_natural
 naturals_entries k no_items ns low h = subst (λ (xs : List ℕ). Each (IsNaturalOf k) xs no_items) (same_ok [] ns h) tt
 naturals_entries k (item v vs) ns low h =
     let (n, first, rest) = bind_ok (natural_at k v) _ ns h in
     let (ms, others, same) = bind_ok (each_natural k vs) _ ns rest in
-    subst (λ (xs : List ℕ). Each (IsNaturalOf k) xs (item v vs)) (same_ok (n ∷ ms) ns same) (number_read k v n low first, naturals_entries k vs ms low others)
+    subst (λ (xs : List ℕ). Each (IsNaturalOf k) xs (item v vs)) (same_ok (n ∷ ms) ns same)
+    (number_read k v n low first, naturals_entries k vs ms low others)
 
 entries_naturals : (k : Key) (vs : Items) (ns : List ℕ) → Each (IsNaturalOf k) ns vs → each_natural k vs ≡ Ok ns
 unfolding each_natural
@@ -156,24 +184,36 @@ list_read k v ns low h =
     let each = naturals_entries k vs ns low h4 in
     record {
       entries = and_some (as_array v) (Each (IsNaturalOf k) ns) vs (fault_ok (WrongKind k) (as_array v) vs list) each;
-      count = subst (CountFits k) (count_of (IsNaturalOf k) ns vs each) (count_read k (item_count vs) (unless_ok _ _ u2 any) (unless_ok _ _ u3 few));
+      count = subst (CountFits k) (count_of (IsNaturalOf k) ns vs each)
+          (count_read k (item_count vs) (unless_ok _ _ u2 any) (unless_ok _ _ u3 few));
     }
 
 list_stands : (k : Key) (v : Data) (ns : List ℕ) → AreNaturals k ns v → naturals k v ≡ Ok ns
 unfolding naturals
 list_stands k v ns h =
     let (vs, list, each) = some_and (as_array v) (Each (IsNaturalOf k) ns) h.entries in
-    rw (ok_stands (WrongKind k) (as_array v) vs list, entries_whole k vs ns each, count_of (IsNaturalOf k) ns vs each, some_test (length ns) h.count.some, few_test (length ns) (most_of k) h.count.few) (entries_naturals k vs ns each)
+    rw (
+      ok_stands (WrongKind k) (as_array v) vs list,
+      entries_whole k vs ns each,
+      count_of (IsNaturalOf k) ns vs each,
+      some_test (length ns) h.count.some,
+      few_test (length ns) (most_of k) h.count.few,
+    ) (entries_naturals k vs ns each)
 
-naturals_here : (k : Key) (o : Option Data) (ns : List ℕ) → pos 0 ≤ℤ (range_of k).low → option_map_or (naturals k) o (or_fault (Missing k) (default_list_of k)) ≡ Ok ns → MatchOption o (default_list_of k ≡ Some ns) (AreNaturals k ns)
+naturals_here : (k : Key) (o : Option Data) (ns : List ℕ) → pos 0 ≤ℤ (range_of k).low →
+    option_map_or (naturals k) o (or_fault (Missing k) (default_list_of k)) ≡ Ok ns →
+    MatchOption o (default_list_of k ≡ Some ns) (AreNaturals k ns)
 naturals_here k None ns low h = fault_ok (Missing k) (default_list_of k) ns h
 naturals_here k (Some v) ns low h = list_read k v ns low h
 
-here_naturals : (k : Key) (o : Option Data) (ns : List ℕ) → MatchOption o (default_list_of k ≡ Some ns) (AreNaturals k ns) → option_map_or (naturals k) o (or_fault (Missing k) (default_list_of k)) ≡ Ok ns
+here_naturals : (k : Key) (o : Option Data) (ns : List ℕ) →
+    MatchOption o (default_list_of k ≡ Some ns) (AreNaturals k ns) →
+    option_map_or (naturals k) o (or_fault (Missing k) (default_list_of k)) ≡ Ok ns
 here_naturals k None ns h = ok_stands (Missing k) (default_list_of k) ns h
 here_naturals k (Some v) ns h = list_stands k v ns h
 
-pub naturals_read : (k : Key) (t : Members) (ns : List ℕ) → pos 0 ≤ℤ (range_of k).low → naturals_in k t ≡ Ok ns → HoldsNaturals k t ns
+pub naturals_read : (k : Key) (t : Members) (ns : List ℕ) → pos 0 ≤ℤ (range_of k).low →
+    naturals_in k t ≡ Ok ns → HoldsNaturals k t ns
 naturals_read k t ns low h = naturals_here k (value_at k t) ns low h
 
 pub naturals_stand : (k : Key) (t : Members) (ns : List ℕ) → HoldsNaturals k t ns → naturals_in k t ≡ Ok ns

@@ -1,5 +1,8 @@
 -- Tables in lists, and the keys of a table, are read exactly where a table holds them.
-use Rattle.std.proofs.Common.{◌≡◌, ◌≢◌, ◌≤◌, ◌<◌, ◌∙◌, ℕ, zero, suc, ◌+◌, ℤ, pos, negsuc, ◌-ℤ◌, ◌≤ℤ◌, ◌<ℤ◌, unsigned_abs, Bool, true, false, List, [], ◌∷◌, ◌++◌, length, map, get_or, Option, Some, None, is_some, nat_cmp, Ordering, Less, Equal, Greater, Result, Ok, Err, refl, sym, ap, subst, arith, inl, inr, ◌⊎◌}
+use Rattle.std.proofs.Common.{◌≡◌, ◌≢◌, ◌≤◌, ◌<◌, ◌∙◌, ℕ, zero, suc, ◌+◌, ℤ, pos, negsuc, ◌-ℤ◌, ◌≤ℤ◌, ◌<ℤ◌}
+use Rattle.std.proofs.Common.{unsigned_abs, Bool, true, false, List, [], ◌∷◌, ◌++◌, length, map, get_or, Option}
+use Rattle.std.proofs.Common.{Some, None, is_some, nat_cmp, Ordering, Less, Equal, Greater, Result, Ok, Err}
+use Rattle.std.proofs.Common.{refl, sym, ap, subst, arith, inl, inr, ◌⊎◌}
 use Rattle.std.specs.Prelude.{IsSomeAnd, IsSome, MatchOption, All, nat_lt, nat_le, not, codes}
 use Rattle.std.specs.Int.Signed.{lt_z, le_z, lt_z_no}
 use Rattle.std.specs.Option.{option_map_or}
@@ -13,21 +16,30 @@ use Rattle.std.proofs.lemmas.Int.{ints}
 use Rattle.std.proofs.lemmas.List.Elements.{All-nil, All-cons, All-head, All-tail}
 use Rattle.std.proofs.lemmas.Map.Text.{is_eq-slice_cmp}
 use Rattle.std.proofs.lemmas.Slice.Eq.{bytes_eq-Decides}
-use Rattle.toml.specs.Data.{Data, Members, no_members, member, Items, no_items, item, get_member, as_str, as_integer, as_array, as_table}
+use Rattle.toml.specs.Data.{Data, Members, no_members, member, Items, no_items, item, get_member, as_str}
+use Rattle.toml.specs.Data.{as_integer, as_array, as_table}
 use Rattle.toml.specs.Parse.{parse_document}
 use Rattle.fx_nums.specs.Fraction.{Fraction, is_one, zero_fraction}
 use Rattle.fx_math.specs.Faults.{◌>>=◌, or_fault, unless}
 use Rattle.fx_math.specs.Words.{is_accumulator}
 use Rattle.fx_files.specs.Settings.{Settings, structure_at, structure_in, is_listed, accumulator_in, settings_in}
-use Rattle.fx_files.specs.Lists.{monic, each_monic, polynomial_in, transfer_in, cascade_in, state_rows, matrix_in, space_in, reflections_in, taps_in, ladder_in, coefficients_in}
-use Rattle.fx_files.specs.Describes.{DescribesInput, DescribesOutput, IsNear, HoldsPolynomial, DescribesTransfer, DescribesCascade, DescribesSpace, DescribesLattice, DescribesCoefficients, HoldsStructure, DescribesSettings, HoldsForm, Describes, IsFileOf, FileLaw, DescribesOne}
+use Rattle.fx_files.specs.Lists.{monic, each_monic, polynomial_in, transfer_in, cascade_in, state_rows}
+use Rattle.fx_files.specs.Lists.{matrix_in, space_in, reflections_in, taps_in, ladder_in, coefficients_in}
+use Rattle.fx_files.specs.Describes.{DescribesInput, DescribesOutput, IsNear, HoldsPolynomial}
+use Rattle.fx_files.specs.Describes.{DescribesTransfer, DescribesCascade, DescribesSpace, DescribesLattice}
+use Rattle.fx_files.specs.Describes.{DescribesCoefficients, HoldsStructure, DescribesSettings, HoldsForm}
+use Rattle.fx_files.specs.Describes.{Describes, IsFileOf, FileLaw, DescribesOne}
 use Rattle.fx_keys.specs.Entries.{list_at, item_count, all_tables, some, at_most, exactly}
 use Rattle.fx_files.specs.Head.{form_in, head_in}
-use Rattle.fx_files.specs.Holds.{value_at, HasOnly, Each, IsListOf, IsTableOf, CountFits, HoldsTables, HoldsInteger, HoldsWhole, HoldsNatural, HoldsNaturals, IsNumeralOf, HoldsNumerals, HoldsRows, row_after_row, AreWide, HoldsMatrix}
+use Rattle.fx_files.specs.Holds.{value_at, HasOnly, Each, IsListOf, IsTableOf, CountFits, HoldsTables}
+use Rattle.fx_files.specs.Holds.{HoldsInteger, HoldsWhole, HoldsNatural, HoldsNaturals, IsNumeralOf}
+use Rattle.fx_files.specs.Holds.{HoldsNumerals, HoldsRows, row_after_row, AreWide, HoldsMatrix}
 use Rattle.fx_keys.specs.Keys.{IsWithin, own_name, range_of, most_of, default_of, default_list_of}
 use Rattle.fx_files.specs.Forms.{form_text, form_word, structure_text, structure_word, default_structure, known_keys}
 use Rattle.fx_keys.specs.Numerals.{numeral_at, each_numeral, entries_in, rows_in, matrix}
-use Rattle.fx_files.specs.Ports.{Inputs, Ports, top_word, bounds_of, tables_in, input_in, each_input, inputs_in, error_in, output_in, each_output, outputs_in, ports_in, alone, single, output_fits, outputs_fit}
+use Rattle.fx_files.specs.Ports.{Inputs, Ports, top_word, bounds_of, tables_in, input_in, each_input, inputs_in}
+use Rattle.fx_files.specs.Ports.{error_in, output_in, each_output, outputs_in, ports_in, alone, single}
+use Rattle.fx_files.specs.Ports.{output_fits, outputs_fit}
 use Rattle.fx_files.specs.Reading.{filter_in, filter_of_bytes}
 use Rattle.fx_files.specs.Building.{assembled, equations_of, target_of, with_rows}
 use Rattle.fx_files.specs.Coefficients as coefficients
@@ -37,7 +49,8 @@ use Rattle.fx_files.specs.Fits.{CountsFit}
 use Rattle.fx_keys.specs.Table.{table_at, needed, is_known, only_keys}
 use Rattle.fx_keys.specs.Wholes.{integer_or, whole_or, whole_in, natural_in, naturals_in}
 use Rattle.fx_keys.specs.declared.fault.FilterFault.{FilterFault}
-use Rattle.fx_keys.specs.declared.fault.FilterFault.TheVariants.{NotToml, Missing, WrongKind, UnknownKey, UnknownWord, Limit, Shape, NotMonic}
+use Rattle.fx_keys.specs.declared.fault.FilterFault.TheVariants.{NotToml, Missing, WrongKind, UnknownKey}
+use Rattle.fx_keys.specs.declared.fault.FilterFault.TheVariants.{UnknownWord, Limit, Shape, NotMonic}
 use Rattle.fx_files.specs.declared.formats.InputFormat.{InputFormat}
 use Rattle.fx_files.specs.declared.formats.OutputEntry.{OutputEntry}
 use Rattle.fx_files.specs.declared.formats.OutputFormat.{OutputFormat}
@@ -49,8 +62,13 @@ use Rattle.fx_files.specs.declared.forms.Form.{Form}
 use Rattle.fx_files.specs.declared.forms.Structure.{Structure}
 use Rattle.fx_files.specs.declared.forms.Structure.TheVariants as structure
 use Rattle.fx_files.proofs.Steps.{and_some, bind_ok, bind_stands, fault_ok, ok_stands, same_ok, some_and, unless_ok}
-use Rattle.fx_files.proofs.HeldNumbers.{count_of, count_read, few_test, integer_read, integer_stands, natural_read, natural_stands, naturals_read, naturals_stand, not_below, some_test, sure_no, whole_read, whole_stands}
-use Rattle.fx_files.proofs.HeldNumerals.{AreRows, IsListed, entries_listed, entries_numerals, exact_count, exact_test, list_of, listed, listed_entries, listed_rows, matrix_read, matrix_stands, numeral_read, numeral_stands, numerals_entries, rows_listed}
+use Rattle.fx_files.proofs.HeldNumbers.{count_of, count_read, few_test, integer_read, integer_stands}
+use Rattle.fx_files.proofs.HeldNumbers.{natural_read, natural_stands, naturals_read, naturals_stand, not_below}
+use Rattle.fx_files.proofs.HeldNumbers.{some_test, sure_no, whole_read, whole_stands}
+use Rattle.fx_files.proofs.HeldNumerals.{AreRows, IsListed, entries_listed, entries_numerals, exact_count}
+use Rattle.fx_files.proofs.HeldNumerals.{exact_test, list_of, listed, listed_entries, listed_rows, matrix_read}
+use Rattle.fx_files.proofs.HeldNumerals.{matrix_stands, numeral_read, numeral_stands, numerals_entries}
+use Rattle.fx_files.proofs.HeldNumerals.{rows_listed}
 
 -- ---- no other key
 
@@ -60,12 +78,14 @@ same_itself k = (Equal-is (slice_cmp nat_cmp k k)).0 (is_eq-slice_cmp k k ∙ (b
 same_bytes : (l j : List ℕ) → slice_cmp nat_cmp l j ≡ Equal → l ≡ j
 same_bytes l j e = (bytes_eq-Decides l j).0 (sym (is_eq-slice_cmp l j) ∙ (Equal-is (slice_cmp nat_cmp l j)).1 e)
 
-found_later : (o : Ordering) (d : Data) (rest : Option Data) → IsSome rest → IsSome (match_ordering o rest (Some d) rest)
+found_later : (o : Ordering) (d : Data) (rest : Option Data) → IsSome rest →
+    IsSome (match_ordering o rest (Some d) rest)
 found_later Less d rest h = h
 found_later Equal d rest h = refl
 found_later Greater d rest h = h
 
-found_where : (o : Ordering) (d : Data) (rest : Option Data) → IsSome (match_ordering o rest (Some d) rest) → (o ≡ Equal) ⊎ IsSome rest
+found_where : (o : Ordering) (d : Data) (rest : Option Data) → IsSome (match_ordering o rest (Some d) rest) →
+    (o ≡ Equal) ⊎ IsSome rest
 found_where Less d rest h = inr h
 found_where Equal d rest h = inl refl
 found_where Greater d rest h = inr h
@@ -78,7 +98,8 @@ only_read known (member j d ms) u h text there = elim (cases_Bool (is_known know
     | inl same ↦ rw (same_bytes text j same) is
     | inr later ↦ only_read known ms u (rw is at h) text later
   ]
-  | inr other ↦ absurd (let e : ◌≡◌ {A = Result (Unit {0}) FilterFault} (Err (UnknownKey j)) (Ok u) = rw other at h in cc)
+  | inr other ↦ absurd (let e : ◌≡◌ {A = Result (Unit {0}) FilterFault} (Err (UnknownKey j)) (Ok u) =
+      rw other at h in cc)
 ]
 
 pub only_stands : (known : List Key) (t : Members) → HasOnly known t → only_keys known t ≡ Ok tt
@@ -87,11 +108,13 @@ only_stands known no_members h = refl
 only_stands known (member j d ms) h =
     let there : IsSome (get_member j (member j d ms)) = rw (same_itself j) refl in
     let is : is_known known j ≡ true = h j there in
-    rw is (only_stands known ms (λ text later. h text (found_later (slice_cmp nat_cmp text j) d (get_member text ms) later)))
+    rw is (only_stands known ms (λ text later.
+    h text (found_later (slice_cmp nat_cmp text j) d (get_member text ms) later)))
 
 -- ---- tables in lists
 
-tables_all : {A : Type 0} (describes : Members → A → Type 0) (k : Key) (vs : Items) (xs : List A) → Each (IsTableOf describes) xs vs → all_tables k vs ≡ Ok tt
+tables_all : {A : Type 0} (describes : Members → A → Type 0) (k : Key) (vs : Items) (xs : List A) →
+    Each (IsTableOf describes) xs vs → all_tables k vs ≡ Ok tt
 unfolding all_tables
 tables_all describes k no_items [] h = refl
 tables_all describes k (item v vs) [] h = absurd h
@@ -100,7 +123,8 @@ tables_all describes k (item v vs) (x ∷ xs) h =
     let (t, there, is) = some_and (as_table v) (λ t. describes t x) h.0 in
     rw there (tables_all describes k vs xs h.1)
 
-pub tables_listed : (k : Key) (t : Members) (vs : Items) → tables_in k t ≡ Ok vs → IsListed k t vs × CountFits k (item_count vs)
+pub tables_listed : (k : Key) (t : Members) (vs : Items) → tables_in k t ≡ Ok vs →
+    IsListed k t vs × CountFits k (item_count vs)
 unfolding tables_in
 tables_listed k t vs h =
     let (v, there, h1) = bind_ok (needed k t) _ vs h in
@@ -109,14 +133,29 @@ tables_listed k t vs h =
     let (u2, any, h4) = bind_ok (some k ws) _ vs h3 in
     let (u3, few, same) = bind_ok (at_most k ws) _ vs h4 in
     let is : ws ≡ vs = same_ok ws vs same in (
-      record { value = v; there = fault_ok (Missing k) (value_at k t) v there; list = fault_ok (WrongKind k) (as_array v) ws list ∙ ap (λ (x : Items). Some x) is },
-      subst (λ (x : Items). CountFits k (item_count x)) is (count_read k (item_count ws) (unless_ok _ _ u2 any) (unless_ok _ _ u3 few)),
+      record {
+        value = v;
+        there = fault_ok (Missing k) (value_at k t) v there;
+        list =
+            fault_ok (WrongKind k) (as_array v) ws list ∙ ap (λ (x : Items). Some x) is;
+      },
+      subst (λ (x : Items). CountFits k (item_count x)) is
+          (count_read k (item_count ws) (unless_ok _ _ u2 any) (unless_ok _ _ u3 few)),
     )
 
-pub listed_tables : {A : Type 0} (describes : Members → A → Type 0) (k : Key) (t : Members) (vs : Items) (xs : List A) → IsListed k t vs → Each (IsTableOf describes) xs vs → CountFits k (length xs) → tables_in k t ≡ Ok vs
+pub listed_tables : {A : Type 0} (describes : Members → A →
+    Type 0) (k : Key) (t : Members) (vs : Items) (xs : List A) → IsListed k t vs →
+    Each (IsTableOf describes) xs vs → CountFits k (length xs) → tables_in k t ≡ Ok vs
 unfolding tables_in
 listed_tables describes k t vs xs h each count =
-    rw (ok_stands (Missing k) (value_at k t) h.value h.there, ok_stands (WrongKind k) (as_array h.value) vs h.list, tables_all describes k vs xs each, count_of (IsTableOf describes) xs vs each, some_test (length xs) count.some, few_test (length xs) (most_of k) count.few) refl
+    rw (
+      ok_stands (Missing k) (value_at k t) h.value h.there,
+      ok_stands (WrongKind k) (as_array h.value) vs h.list,
+      tables_all describes k vs xs each,
+      count_of (IsTableOf describes) xs vs each,
+      some_test (length xs) count.some,
+      few_test (length xs) (most_of k) count.few,
+    ) refl
 
 -- ---- inputs
 
@@ -135,17 +174,25 @@ input_read t i h =
 
 pub input_stands : (t : Members) (i : InputFormat) → DescribesInput t i → input_in t ≡ Ok i
 unfolding input_in
-input_stands t i h = rw (only_stands _ t h.keys, natural_stands key.InputsWidth t i.width h.width, whole_stands key.InputsBound (bounds_of i.width) (Some (top_word i.width)) t i.bound h.bound) refl
+input_stands t i h = rw (
+  only_stands _ t h.keys,
+  natural_stands key.InputsWidth t i.width h.width,
+  whole_stands key.InputsBound (bounds_of i.width) (Some (top_word i.width)) t i.bound h.bound,
+) refl
 
 inputs_each : (vs : Items) (is : List InputFormat) → each_input vs ≡ Ok is → Each (IsTableOf DescribesInput) is vs
 unfolding each_input
-inputs_each no_items is h = subst (λ (xs : List InputFormat). Each (IsTableOf DescribesInput) xs no_items) (same_ok [] is h) tt
+inputs_each no_items is h =
+    subst (λ (xs : List InputFormat). Each (IsTableOf DescribesInput) xs no_items) (same_ok [] is h) tt
 inputs_each (item v vs) is h =
     let (t, table, h1) = bind_ok (or_fault (WrongKind key.Inputs) (as_table v)) _ is h in
     let (x, first, h2) = bind_ok (input_in t) _ is h1 in
     let (xs, others, same) = bind_ok (each_input vs) _ is h2 in
-    subst (λ (ys : List InputFormat). Each (IsTableOf DescribesInput) ys (item v vs)) (same_ok (x ∷ xs) is same)
-    (and_some (as_table v) (λ t. DescribesInput t x) t (fault_ok (WrongKind key.Inputs) (as_table v) t table) (input_read t x first), inputs_each vs xs others)
+    subst (λ (ys : List InputFormat). Each (IsTableOf DescribesInput) ys (item v vs)) (same_ok (x ∷ xs) is same) (
+      and_some (as_table v) (λ t. DescribesInput t x) t (fault_ok (WrongKind key.Inputs) (as_table v) t table)
+          (input_read t x first),
+      inputs_each vs xs others,
+    )
 
 each_inputs : (vs : Items) (is : List InputFormat) → Each (IsTableOf DescribesInput) is vs → each_input vs ≡ Ok is
 unfolding each_input
@@ -170,23 +217,37 @@ pub not_true : (b : Bool) → not b ≡ true → b ≡ false
 not_true true h = absurd cc
 not_true false h = refl
 
-error_read : (place : ℕ) (t : Members) (c : Fraction) → error_in place t ≡ Ok c → IsSomeAnd (value_at key.OutputsError t) (IsNumeralOf c) × (pos 0 ≤ℤ c.num)
+error_read : (place : ℕ) (t : Members) (c : Fraction) → error_in place t ≡ Ok c →
+    IsSomeAnd (value_at key.OutputsError t) (IsNumeralOf c) × (pos 0 ≤ℤ c.num)
 unfolding error_in
 error_read place t c h =
     let (v, there, h1) = bind_ok (needed key.OutputsError t) _ c h in
     let (x, meant, h2) = bind_ok (numeral_at key.OutputsError place v) _ c h1 in
-    let (u, above, same) = bind_ok (unless (Limit key.OutputsError (pos place) (pos 0)) (not (lt_z x.num (pos 0)))) _ c h2 in
-    let sign = lt_z_no {a = x.num} {b = pos 0} (sure_no (lt_z x.num (pos 0)) (not_true (lt_z x.num (pos 0)) (unless_ok _ _ u above))) in
-    subst (λ (y : Fraction). IsSomeAnd (value_at key.OutputsError t) (IsNumeralOf y) × (pos 0 ≤ℤ y.num)) (same_ok x c same)
-    (and_some (value_at key.OutputsError t) (IsNumeralOf x) v (fault_ok (Missing key.OutputsError) (value_at key.OutputsError t) v there) (numeral_read key.OutputsError place v x meant), sign)
+    let (u, above, same) = bind_ok
+    (unless (Limit key.OutputsError (pos place) (pos 0)) (not (lt_z x.num (pos 0)))) _ c h2 in
+    let sign = lt_z_no {a = x.num} {b =
+    pos 0} (sure_no (lt_z x.num (pos 0)) (not_true (lt_z x.num (pos 0)) (unless_ok _ _ u above))) in
+    subst (λ (y : Fraction). IsSomeAnd (value_at key.OutputsError t) (IsNumeralOf y) × (pos 0 ≤ℤ y.num))
+    (same_ok x c same) (
+      and_some (value_at key.OutputsError t) (IsNumeralOf x) v
+          (fault_ok (Missing key.OutputsError) (value_at key.OutputsError t) v there)
+          (numeral_read key.OutputsError place v x meant),
+      sign,
+    )
 
-error_stands : (place : ℕ) (t : Members) (c : Fraction) → IsSomeAnd (value_at key.OutputsError t) (IsNumeralOf c) → pos 0 ≤ℤ c.num → error_in place t ≡ Ok c
+error_stands : (place : ℕ) (t : Members) (c : Fraction) →
+    IsSomeAnd (value_at key.OutputsError t) (IsNumeralOf c) → pos 0 ≤ℤ c.num → error_in place t ≡ Ok c
 unfolding error_in
 error_stands place t c h sign =
     let (v, there, is) = some_and (value_at key.OutputsError t) (IsNumeralOf c) h in
-    rw (ok_stands (Missing key.OutputsError) (value_at key.OutputsError t) v there, numeral_stands key.OutputsError place v c is, not_below (pos 0) c.num sign) refl
+    rw (
+      ok_stands (Missing key.OutputsError) (value_at key.OutputsError t) v there,
+      numeral_stands key.OutputsError place v c is,
+      not_below (pos 0) c.num sign,
+    ) refl
 
-entry_read : (input_low : ℤ) (place : ℕ) (t : Members) (o : OutputEntry) → output_in input_low place t ≡ Ok o → DescribesEntry input_low t o
+entry_read : (input_low : ℤ) (place : ℕ) (t : Members) (o : OutputEntry) → output_in input_low place t ≡ Ok o →
+    DescribesEntry input_low t o
 unfolding output_in
 entry_read input_low place t o h =
     let (u, keys, h1) = bind_ok (only_keys (key.OutputsWidth ∷ key.OutputsLow ∷ key.OutputsError ∷ []) t) _ o h in
@@ -203,29 +264,47 @@ entry_read input_low place t o h =
       not_negative = e.1;
     })
 
-entry_stands : (input_low : ℤ) (place : ℕ) (t : Members) (o : OutputEntry) → DescribesEntry input_low t o → output_in input_low place t ≡ Ok o
+entry_stands : (input_low : ℤ) (place : ℕ) (t : Members) (o : OutputEntry) → DescribesEntry input_low t o →
+    output_in input_low place t ≡ Ok o
 unfolding output_in
 entry_stands input_low place t o h =
-    rw (only_stands _ t h.keys, natural_stands key.OutputsWidth t o.width h.width, whole_stands key.OutputsLow LOWS (Some input_low) t o.low h.low, error_stands place t o.error h.error h.not_negative) refl
+    rw (
+      only_stands _ t h.keys,
+      natural_stands key.OutputsWidth t o.width h.width,
+      whole_stands key.OutputsLow LOWS (Some input_low) t o.low h.low,
+      error_stands place t o.error h.error h.not_negative,
+    ) refl
 
-pub entries_each : (input_low : ℤ) (place : ℕ) (vs : Items) (os : List OutputEntry) → each_output input_low place vs ≡ Ok os → Each (IsTableOf (DescribesEntry input_low)) os vs
+pub entries_each : (input_low : ℤ) (place : ℕ) (vs : Items) (os : List OutputEntry) →
+    each_output input_low place vs ≡ Ok os → Each (IsTableOf (DescribesEntry input_low)) os vs
 unfolding each_output
-entries_each input_low place no_items os h = subst (λ (xs : List OutputEntry). Each (IsTableOf (DescribesEntry input_low)) xs no_items) (same_ok [] os h) tt
+entries_each input_low place no_items os h =
+    subst (λ (xs : List OutputEntry). Each (IsTableOf (DescribesEntry input_low)) xs no_items)
+    (same_ok [] os h) tt
 entries_each input_low place (item v vs) os h =
     let (t, table, h1) = bind_ok (or_fault (WrongKind key.Outputs) (as_table v)) _ os h in
     let (x, first, h2) = bind_ok (output_in input_low place t) _ os h1 in
     let (xs, others, same) = bind_ok (each_output input_low (place + 1) vs) _ os h2 in
-    subst (λ (ys : List OutputEntry). Each (IsTableOf (DescribesEntry input_low)) ys (item v vs)) (same_ok (x ∷ xs) os same)
-    (and_some (as_table v) (λ t. DescribesEntry input_low t x) t (fault_ok (WrongKind key.Outputs) (as_table v) t table) (entry_read input_low place t x first), entries_each input_low (place + 1) vs xs others)
+    subst (λ (ys : List OutputEntry). Each (IsTableOf (DescribesEntry input_low)) ys (item v vs))
+    (same_ok (x ∷ xs) os same) (
+      and_some (as_table v) (λ t. DescribesEntry input_low t x) t
+          (fault_ok (WrongKind key.Outputs) (as_table v) t table) (entry_read input_low place t x first),
+      entries_each input_low (place + 1) vs xs others,
+    )
 
-pub each_entries : (input_low : ℤ) (place : ℕ) (vs : Items) (os : List OutputEntry) → Each (IsTableOf (DescribesEntry input_low)) os vs → each_output input_low place vs ≡ Ok os
+pub each_entries : (input_low : ℤ) (place : ℕ) (vs : Items) (os : List OutputEntry) →
+    Each (IsTableOf (DescribesEntry input_low)) os vs → each_output input_low place vs ≡ Ok os
 unfolding each_output
 each_entries input_low place no_items [] h = refl
 each_entries input_low place (item v vs) [] h = absurd h
 each_entries input_low place no_items (x ∷ xs) h = absurd h
 each_entries input_low place (item v vs) (x ∷ xs) h =
     let (t, there, is) = some_and (as_table v) (λ t. DescribesEntry input_low t x) h.0 in
-    rw (ok_stands (WrongKind key.Outputs) (as_table v) t there, entry_stands input_low place t x is, each_entries input_low (place + 1) vs xs h.1) refl
+    rw (
+      ok_stands (WrongKind key.Outputs) (as_table v) t there,
+      entry_stands input_low place t x is,
+      each_entries input_low (place + 1) vs xs h.1,
+    ) refl
 
 -- ---- inputs and outputs together
 
@@ -234,10 +313,15 @@ pub record PortsHeld (t : Members) (ports : Ports) : Type 0 where
   pub inputs : HoldsTables key.Inputs DescribesInput t ports.inputs.formats
   pub outputs : HoldsTables key.Outputs (DescribesEntry ports.inputs.low) t ports.outputs
 
-tables_held : {A : Type 0} (describes : Members → A → Type 0) (k : Key) (t : Members) (vs : Items) (xs : List A) → tables_in k t ≡ Ok vs → Each (IsTableOf describes) xs vs → HoldsTables k describes t xs
+tables_held : {A : Type 0} (describes : Members → A → Type 0) (k : Key) (t : Members) (vs : Items)
+    (xs : List A) → tables_in k t ≡ Ok vs → Each (IsTableOf describes) xs vs → HoldsTables k describes t xs
 tables_held describes k t vs xs h each =
     let (list, count) = tables_listed k t vs h in
-    record { held = listed (IsTableOf describes) xs k t vs list each; count = subst (CountFits k) (count_of (IsTableOf describes) xs vs each) count }
+    record {
+      held = listed (IsTableOf describes) xs k t vs list each;
+      count =
+          subst (CountFits k) (count_of (IsTableOf describes) xs vs each) count;
+    }
 
 pub ports_read : (t : Members) (ports : Ports) → ports_in t ≡ Ok ports → PortsHeld t ports
 unfolding ports_in inputs_in outputs_in
@@ -252,9 +336,13 @@ ports_read t ports h =
     let record_is : ◌≡◌ {A = Ports} (record { inputs = inputs; outputs = outputs }) ports = same_ok _ ports same in
     subst (PortsHeld t) record_is
     (record {
-      low = subst (λ (i : Inputs). HoldsWhole key.InputLow (range_of key.InputLow) (default_of key.InputLow) t i.low) is (whole_read key.InputLow (range_of key.InputLow) (default_of key.InputLow) t low low_held);
-      inputs = subst (λ (i : Inputs). HoldsTables key.Inputs DescribesInput t i.formats) is (tables_held DescribesInput key.Inputs t vs formats tables (inputs_each vs formats each));
-      outputs = tables_held (DescribesEntry inputs.low) key.Outputs t ws outputs out_tables (entries_each inputs.low 0 ws outputs out_each);
+      low = subst (λ (i : Inputs).
+          HoldsWhole key.InputLow (range_of key.InputLow) (default_of key.InputLow) t i.low) is
+          (whole_read key.InputLow (range_of key.InputLow) (default_of key.InputLow) t low low_held);
+      inputs = subst (λ (i : Inputs). HoldsTables key.Inputs DescribesInput t i.formats) is
+          (tables_held DescribesInput key.Inputs t vs formats tables (inputs_each vs formats each));
+      outputs = tables_held (DescribesEntry inputs.low) key.Outputs t ws outputs out_tables
+          (entries_each inputs.low 0 ws outputs out_each);
     })
 
 pub ports_stand : (t : Members) (ports : Ports) → PortsHeld t ports → ports_in t ≡ Ok ports

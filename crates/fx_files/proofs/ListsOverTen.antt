@@ -10,7 +10,8 @@ use Rattle.fx_files.specs.Fits.{EachOverTen}
 pub both_over_ten : (xs ys : List Fraction) → All OverTen xs → All OverTen ys → All OverTen (xs ++ ys)
 both_over_ten xs ys p q = All-append OverTen xs ys p q
 
-pub four_over_ten : (a b c d : List Fraction) → All OverTen a → All OverTen b → All OverTen c → All OverTen d → All OverTen (a ++ (b ++ (c ++ d)))
+pub four_over_ten : (a b c d : List Fraction) → All OverTen a → All OverTen b → All OverTen c → All OverTen d →
+    All OverTen (a ++ (b ++ (c ++ d)))
 four_over_ten a b c d p q r s = both_over_ten a (b ++ (c ++ d)) p (both_over_ten b (c ++ d) q (both_over_ten c d r s))
 
 front : (xs ys : List Fraction) → All OverTen (xs ++ ys) → All OverTen xs

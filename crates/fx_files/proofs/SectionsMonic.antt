@@ -5,7 +5,9 @@ use Rattle.fx_files.specs.Lists.{each_monic}
 use Rattle.fx_keys.specs.declared.key.Key.{Key}
 
 -- a section whose fourth coefficient is 1 is passed over
-pub monic_section : (k : Key) (place : ℕ) (cs : List Fraction) (first : Fraction) → 6 ≤ length cs → first ≡ get_or cs 3 first → is_one first ≡ true → each_monic k (place + 6) (drop 6 cs) ≡ each_monic k place cs
+pub monic_section : (k : Key) (place : ℕ) (cs : List Fraction) (first : Fraction) → 6 ≤ length cs →
+    first ≡ get_or cs 3 first → is_one first ≡ true → each_monic k (place + 6) (drop 6 cs)
+    ≡ each_monic k place cs
 unfolding each_monic
 monic_section k place [] first h e o = absurd (omega arith)
 monic_section k place (a ∷ []) first h e o = absurd (omega arith)

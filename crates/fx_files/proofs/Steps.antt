@@ -3,14 +3,17 @@ use Rattle.std.proofs.Common.{◌≡◌, Bool, true, false, Option, Some, None, 
 use Rattle.std.specs.Prelude.{IsSomeAnd}
 use Rattle.fx_math.specs.Faults.{◌>>=◌, or_fault, unless}
 
-pub bind_ok : {F A B : Type 0} (r : Result A F) (f : A → Result B F) (y : B) → (r >>= f) ≡ Ok y → (x : A) × (r ≡ Ok x) × (f x ≡ Ok y)
+pub bind_ok : {F A B : Type 0} (r : Result A F) (f : A → Result B F) (y : B) → (r >>= f) ≡ Ok y →
+    (x : A) × (r ≡ Ok x) × (f x ≡ Ok y)
 bind_ok (Ok x) f y h = (x, refl, h)
 bind_ok (Err e) f y h = absurd cc
 
-pub bind_stands : {F A B : Type 0} (r : Result A F) (f : A → Result B F) (x : A) (y : B) → r ≡ Ok x → f x ≡ Ok y → (r >>= f) ≡ Ok y
+pub bind_stands : {F A B : Type 0} (r : Result A F) (f : A → Result B F) (x : A) (y : B) → r ≡ Ok x →
+    f x ≡ Ok y → (r >>= f) ≡ Ok y
 bind_stands r f x y h k = rw h k
 
-pub bind_err : {F A B : Type 0} (r : Result A F) (f : A → Result B F) (e : F) → (r >>= f) ≡ Err e → (r ≡ Err e) ⊎ ((x : A) × (r ≡ Ok x) × (f x ≡ Err e))
+pub bind_err : {F A B : Type 0} (r : Result A F) (f : A → Result B F) (e : F) → (r >>= f) ≡ Err e →
+    (r ≡ Err e) ⊎ ((x : A) × (r ≡ Ok x) × (f x ≡ Err e))
 bind_err (Ok x) f e h = inr (x, refl, h)
 bind_err (Err g) f e h = inl cc
 
@@ -51,7 +54,8 @@ test_err e g true h = absurd cc
 test_err e g false h = (refl, cc)
 
 -- a chain fails in its first step or behind it
-pub in_step : {F A B W : Type 0} (r : Result A F) (f : A → Result B F) (e : F) → (r >>= f) ≡ Err e → (r ≡ Err e → W) → ((x : A) → r ≡ Ok x → f x ≡ Err e → W) → W
+pub in_step : {F A B W : Type 0} (r : Result A F) (f : A → Result B F) (e : F) → (r >>= f) ≡ Err e →
+    (r ≡ Err e → W) → ((x : A) → r ≡ Ok x → f x ≡ Err e → W) → W
 in_step (Ok x) f e h first later = later x refl h
 in_step (Err g) f e h first later = first cc
 

@@ -6,8 +6,8 @@ use Rattle.fx_keys.specs.declared.key.Key.TheVariants as key
 use Rattle.fx_files.specs.declared.forms.Form.{Form}
 use Rattle.fx_files.specs.declared.forms.Form.TheVariants as form
 
--- the lists of each form: b and a; the sections, one behind the other; the count of states and A, B, C, D, row after row;
--- k and v
+-- the lists of each form: b and a; the sections, one behind the other; the count of states and A, B, C, D, row after
+-- row; k and v
 pub data Coefficients : Type 0 where
   Tf : List Fraction → List Fraction → Coefficients
   Sos : List Fraction → Coefficients

@@ -1,5 +1,6 @@
 -- Which filter a table describes.
-use Rattle.std.specs.Prelude.{◌≡◌, ◌↔◌, ◌≤◌, ℕ, ◌+◌, ℤ, pos, ◌-ℤ◌, ◌≤ℤ◌, Bool, true, List, [], ◌∷◌, length, get_or, map, All, Some, IsSomeAnd, MatchOption, Ok}
+use Rattle.std.specs.Prelude.{◌≡◌, ◌↔◌, ◌≤◌, ℕ, ◌+◌, ℤ, pos, ◌-ℤ◌, ◌≤ℤ◌, Bool, true, List, [], ◌∷◌, length}
+use Rattle.std.specs.Prelude.{get_or, map, All, Some, IsSomeAnd, MatchOption, Ok}
 use Rattle.std.specs.Str.{is_utf8}
 use Rattle.toml.specs.Data.{Members, as_str}
 use Rattle.toml.specs.Parse.{parse_document}
@@ -9,7 +10,9 @@ use Rattle.fx_keys.specs.Keys.{IsWithin, range_of, most_of, default_of}
 use Rattle.fx_keys.specs.declared.key.Key.{Key}
 use Rattle.fx_keys.specs.declared.key.Key.TheVariants as key
 use Rattle.fx_keys.specs.declared.limits.TheConstants.{LOWS, LOW_DIFFERENCES, SECTION_COEFFICIENTS}
-use Rattle.fx_files.specs.Holds.{value_at, HasOnly, CountFits, HoldsTables, HoldsInteger, HoldsWhole, HoldsNatural, HoldsNaturals, IsNumeralOf, HoldsNumerals, HoldsRows, AreWide, row_after_row, HoldsMatrix}
+use Rattle.fx_files.specs.Holds.{value_at, HasOnly, CountFits, HoldsTables, HoldsInteger, HoldsWhole}
+use Rattle.fx_files.specs.Holds.{HoldsNatural, HoldsNaturals, IsNumeralOf, HoldsNumerals, HoldsRows, AreWide}
+use Rattle.fx_files.specs.Holds.{row_after_row, HoldsMatrix}
 use Rattle.fx_files.specs.Building.{equations_of, target_of}
 use Rattle.fx_files.specs.Coefficients as coefficients
 use Rattle.fx_files.specs.Coefficients.{Coefficients, form_of}
@@ -95,7 +98,9 @@ DescribesCoefficients m p t (coefficients.Lattice k v) = DescribesLattice t k v
 
 -- the structure named, or that of the form where the table names none
 abbrev pub HoldsStructure : Form → Members → Structure → Type 0
-HoldsStructure form t s = MatchOption (value_at key.Structure t) (s ≡ default_structure form) (λ v. as_str v ≡ Some (structure_text s))
+HoldsStructure form t s =
+    MatchOption (value_at key.Structure t) (s ≡ default_structure form) (λ v.
+    as_str v ≡ Some (structure_text s))
 
 pub record DescribesSettings (form : Form) (t : Members) (s : Settings) : Type 0 where
   pub structure : HoldsStructure form t s.structure

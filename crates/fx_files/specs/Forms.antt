@@ -35,7 +35,8 @@ form_text form.Lattice = codes "lattice"
 abbrev pub form_word : List ℕ → Option Form
 form_word w =
     if bytes_eq w (codes "tf") then Some form.Tf else if bytes_eq w (codes "sos") then Some form.Sos
-    else if bytes_eq w (codes "ss") then Some form.Ss else if bytes_eq w (codes "lattice") then Some form.Lattice else None
+    else if bytes_eq w (codes "ss") then Some form.Ss else if bytes_eq w (codes "lattice") then Some
+    form.Lattice else None
 
 abbrev pub structure_text : Structure → List ℕ
 structure_text structure.Df1 = codes "df1"
@@ -49,7 +50,8 @@ abbrev pub structure_word : List ℕ → Option Structure
 structure_word w =
     if bytes_eq w (codes "df1") then Some structure.Df1 else if bytes_eq w (codes "df2") then Some structure.Df2
     else if bytes_eq w (codes "df2t") then Some structure.Df2t else if bytes_eq w (codes "fir") then Some structure.Fir
-    else if bytes_eq w (codes "lattice") then Some structure.Lattice else if bytes_eq w (codes "ss") then Some structure.Ss else None
+    else if bytes_eq w (codes "lattice") then Some structure.Lattice else if bytes_eq w (codes "ss") then Some
+    structure.Ss else None
 
 -- the structure where a file names none
 abbrev pub default_structure : Form → Structure

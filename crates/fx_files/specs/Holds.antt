@@ -1,5 +1,6 @@
 -- What a table holds at a key.
-use Rattle.std.specs.Prelude.{◌≡◌, ◌≤◌, ℕ, ℤ, pos, Bool, true, List, [], ◌∷◌, length, flat_map, All, Option, Some, IsSome, IsSomeAnd, MatchOption, Ok, ⊤}
+use Rattle.std.specs.Prelude.{◌≡◌, ◌≤◌, ℕ, ℤ, pos, Bool, true, List, [], ◌∷◌, length, flat_map, All, Option}
+use Rattle.std.specs.Prelude.{Some, IsSome, IsSomeAnd, MatchOption, Ok, ⊤}
 use Rattle.toml.specs.Data.{Data, Members, Items, no_items, item, get_member, as_integer, as_array, as_table}
 use Rattle.fx_nums.specs.Fraction.{Fraction}
 use Rattle.fx_decimal.specs.Faults.{Means}
@@ -39,7 +40,8 @@ pub record CountFits (k : Key) (n : ℕ) : Type 0 where
   pub few : n ≤ most_of k
 
 -- a list of tables at the key
-pub record HoldsTables {A : Type 0} (k : Key) (describes : Members → A → Type 0) (t : Members) (xs : List A) : Type 0 where
+pub record HoldsTables {A : Type 0} (k : Key) (describes : Members → A →
+    Type 0) (t : Members) (xs : List A) : Type 0 where
   pub held : IsSomeAnd (value_at k t) (IsListOf (IsTableOf describes) xs)
   pub count : CountFits k (length xs)
 

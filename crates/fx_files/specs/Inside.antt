@@ -22,7 +22,8 @@ use Rattle.fx_files.specs.declared.settings.Settings.{Settings}
 abbrev pub cut : List Fraction → Ends → Coefficients
 cut all (ends.Tf i) = coefficients.Tf (take i all) (drop i all)
 cut all ends.Sos = coefficients.Sos all
-cut all (ends.Ss n i j k) = coefficients.Ss n (take i all) (take (j - i) (drop i all)) (take (k - j) (drop j all)) (drop k all)
+cut all (ends.Ss n i j k) =
+    coefficients.Ss n (take i all) (take (j - i) (drop i all)) (take (k - j) (drop j all)) (drop k all)
 cut all (ends.Lattice i) = coefficients.Lattice (take i all) (drop i all)
 
 -- the ends ascend, and stand in the list

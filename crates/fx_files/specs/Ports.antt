@@ -127,8 +127,10 @@ single _ m p = do
 -- an output's low position is near that of the inputs, and its words fit the accumulator
 abbrev pub output_fits : ℤ → ℕ → OutputEntry → Result (Unit {0}) FilterFault
 output_fits input_low accumulator o = do
-  u ← unless (Limit key.OutputsLow (input_low -ℤ o.low) LOW_DIFFERENCES.low) (not (lt_z (input_low -ℤ o.low) LOW_DIFFERENCES.low))
-  u ← unless (Limit key.OutputsLow (input_low -ℤ o.low) LOW_DIFFERENCES.high) (not (lt_z LOW_DIFFERENCES.high (input_low -ℤ o.low)))
+  u ← unless (Limit key.OutputsLow (input_low -ℤ o.low) LOW_DIFFERENCES.low)
+      (not (lt_z (input_low -ℤ o.low) LOW_DIFFERENCES.low))
+  u ← unless (Limit key.OutputsLow (input_low -ℤ o.low) LOW_DIFFERENCES.high)
+      (not (lt_z LOW_DIFFERENCES.high (input_low -ℤ o.low)))
   unless (Limit key.OutputsWidth (pos o.width) (pos accumulator)) (nat_le o.width accumulator)
 
 unfoldable pub outputs_fit : ℤ → ℕ → List OutputEntry → Result (Unit {0}) FilterFault

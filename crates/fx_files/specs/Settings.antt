@@ -53,4 +53,12 @@ settings_in form t = do
   guards ← naturals_in key.Guards t
   fractions ← naturals_in key.Fractions t
   lengths ← naturals_in key.Lengths t
-  Ok (record { structure = structure; accumulator = accumulator; word = word; guards = guards; fractions = fractions; lengths = lengths })
+  Ok (record {
+    structure = structure;
+    accumulator = accumulator;
+    word = word;
+    guards = guards;
+    fractions =
+        fractions;
+    lengths = lengths;
+  })

@@ -90,7 +90,8 @@ pub(crate) fn assembled(
     settings: Settings,
 ) -> Result<Filter, AllocError>
     requires ports { PortsFit (ports_view ports) }
-    requires counts { CountsFit (form_of coefficients) (length ports.inputs.formats.items) (length ports.outputs.items) }
+    requires counts { CountsFit (form_of coefficients) (length ports.inputs.formats.items)
+        (length ports.outputs.items) }
     requires fits { CoefficientsFit (length ports.inputs.formats.items) (length ports.outputs.items) coefficients }
     requires over_ten { All OverTen (coefficients_of coefficients) }
     requires settings { SettingsFit (settings_view settings) }

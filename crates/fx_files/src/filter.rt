@@ -62,7 +62,8 @@ impl Filter {
     /// ten; the rows put out are those of the outputs.
     pub fn eqs(&self) -> &Eqs
         ensures value { result.now ≡ self.now.equations }
-        ensures textbook { result.now ≡ equations_of (length self.now.inputs) (length self.now.outputs) self.now.coefficients }
+        ensures textbook { result.now
+            ≡ equations_of (length self.now.inputs) (length self.now.outputs) self.now.coefficients }
         ensures inputs { result.now.inputs ≡ length self.now.inputs }
         ensures outputs { result.now.outputs ≡ map (λ o. o.row) self.now.outputs }
         ensures over_ten { All (λ t. OverTen t.coef) result.now.terms }

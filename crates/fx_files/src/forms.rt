@@ -1,5 +1,12 @@
 ghost use Rattle.std.specs.Prelude.{◌≡◌};
-ghost use Rattle.fx_files.specs.Forms.{default_structure, form_text, form_word, own_keys, structure_text, structure_word};
+ghost use Rattle.fx_files.specs.Forms.{
+  default_structure,
+  form_text,
+  form_word,
+  own_keys,
+  structure_text,
+  structure_word,
+};
 
 use fx_keys::Key;
 

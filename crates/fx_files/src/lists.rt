@@ -7,7 +7,20 @@ ghost use Rattle.fx_math.specs.Answers.{Gives};
 ghost use Rattle.fx_keys.specs.Faults.{is_memory, seen};
 ghost use Rattle.fx_keys.specs.Keys.{most_of};
 ghost use Rattle.fx_files.specs.Coefficients.{coefficients_of, form_of};
-ghost use Rattle.fx_files.specs.Lists.{cascade_in, coefficients_in, each_monic, ladder_in, matrix_in, monic, polynomial_in, reflections_in, space_in, state_rows, taps_in, transfer_in};
+ghost use Rattle.fx_files.specs.Lists.{
+  cascade_in,
+  coefficients_in,
+  each_monic,
+  ladder_in,
+  matrix_in,
+  monic,
+  polynomial_in,
+  reflections_in,
+  space_in,
+  state_rows,
+  taps_in,
+  transfer_in,
+};
 ghost use Rattle.fx_files.specs.Fits.{AlwaysFit, CoefficientsFit};
 ghost use Rattle.fx_files.specs.declared.forms.Form.TheVariants as form;
 

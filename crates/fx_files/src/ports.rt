@@ -9,7 +9,23 @@ ghost use Rattle.fx_keys.specs.Faults.{is_memory, seen};
 ghost use Rattle.fx_keys.specs.Keys.{IsWithin, most_of};
 ghost use Rattle.fx_files.specs.Fits.{CountsFit, EntryAgrees, EntryFits, InputFits, InputsFit, PortsFit};
 ghost use Rattle.fx_files.specs.Inside.{inputs_view, ports_view};
-ghost use Rattle.fx_files.specs.Ports.{alone, bounds_of, each_input, each_output, error_in, input_in, inputs_in, output_fits, output_in, outputs_fit, outputs_in, ports_in, single, tables_in, top_word};
+ghost use Rattle.fx_files.specs.Ports.{
+  alone,
+  bounds_of,
+  each_input,
+  each_output,
+  error_in,
+  input_in,
+  inputs_in,
+  output_fits,
+  output_in,
+  outputs_fit,
+  outputs_in,
+  ports_in,
+  single,
+  tables_in,
+  top_word,
+};
 
 use crate::formats::{InputFormat, OutputEntry};
 use crate::forms::Form;

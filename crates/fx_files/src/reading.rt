@@ -31,10 +31,10 @@ fn filter_of(alloc: Global, table: &Table) -> Result<Filter, FilterFault>
 
 /// The filter of a file's bytes, or the file's first fault.
 ///
-/// The bytes are the text of a TOML table. Its form is looked at first, then whether a key is unknown, then `input_low`,
-/// the inputs, the outputs, the coefficients, and the keys from `structure` on; last, that a form other than the state
-/// space has one input and one output, and that each output's low position is at most 16 from the inputs' and its words
-/// fit the accumulator. `NoMemory` may come at any time.
+/// The bytes are the text of a TOML table. Its form is looked at first, then whether a key is unknown, then
+/// `input_low`, the inputs, the outputs, the coefficients, and the keys from `structure` on; last, that a form other
+/// than the state space has one input and one output, and that each output's low position is at most 16 from the
+/// inputs' and its words fit the accumulator. `NoMemory` may come at any time.
 #[tactic(auto, unfolding(crate::specs::Reading::filter_of_bytes))]
 pub fn read_filter(alloc: Global, bytes: &[u8]) -> Result<Filter, FilterFault>
     ensures { Gives is_memory (λ f. f) result (filter_of_bytes bytes.now) }

@@ -1,5 +1,6 @@
 -- What the forms in memory stand for.
-use Rattle.std.specs.Prelude.{ℕ, ◌+◌, ◌-◌, ◌^◌, suc, zero, Bool, ◌==◌, ◌&&◌, ◌||◌, not, nat_lt, List, [], ◌∷◌, ◌++◌, Some, true, if◌then◌else◌, refl}
+use Rattle.std.specs.Prelude.{ℕ, ◌+◌, ◌-◌, ◌^◌, suc, zero, Bool, ◌==◌, ◌&&◌, ◌||◌, not, nat_lt, List, [], ◌∷◌}
+use Rattle.std.specs.Prelude.{◌++◌, Some, true, if◌then◌else◌, refl}
 use Rattle.std.specs.List.{list_any}
 use Rattle.std.specs.FinMap as map
 use Rattle.std.specs.Coded.{Coded, code_by, coded×, coded_ℕ, coded_list}
@@ -43,7 +44,8 @@ fault_count c = failing_up_to c.failing c.made
 
 abbrev pub calls_code : Coded Calls
 calls_code =
-    code_by (List ℕ × ℕ) (coded× (coded_list coded_ℕ) coded_ℕ) (λ c. (c.failing, c.made)) (λ p. record { failing = p.0; made = p.1 }) (λ _. refl)
+    code_by (List ℕ × ℕ) (coded× (coded_list coded_ℕ) coded_ℕ) (λ c. (c.failing, c.made)) (λ p.
+    record { failing = p.0; made = p.1 }) (λ _. refl)
 
 abbrev pub files_code : Coded Files
 files_code = map.code (coded_list coded_ℕ) (coded_list coded_ℕ)
@@ -62,11 +64,14 @@ pub record SinkState : Type 0 where
 
 abbrev pub shelf_code : Coded ShelfState
 shelf_code =
-    code_by (Files × (Calls × (Calls × ℕ))) (coded× files_code (coded× calls_code (coded× calls_code coded_ℕ))) (λ s. (s.files, (s.reads, (s.places, s.absences)))) (λ p. record { files = p.0; reads = p.1.0; places = p.1.1.0; absences = p.1.1.1 }) (λ _. refl)
+    code_by (Files × (Calls × (Calls × ℕ))) (coded× files_code (coded× calls_code (coded× calls_code coded_ℕ)))
+    (λ s. (s.files, (s.reads, (s.places, s.absences)))) (λ p.
+    record { files = p.0; reads = p.1.0; places = p.1.1.0; absences = p.1.1.1 }) (λ _. refl)
 
 abbrev pub sink_code : Coded SinkState
 sink_code =
-    code_by (List ℕ × Calls) (coded× (coded_list coded_ℕ) calls_code) (λ s. (s.bytes, s.puts)) (λ p. record { bytes = p.0; puts = p.1 }) (λ _. refl)
+    code_by (List ℕ × Calls) (coded× (coded_list coded_ℕ) calls_code) (λ s. (s.bytes, s.puts)) (λ p.
+    record { bytes = p.0; puts = p.1 }) (λ _. refl)
 
 -- a read of this name fails next
 abbrev pub read_fails : ShelfState → List ℕ → Bool
@@ -77,7 +82,8 @@ abbrev pub after_read : ShelfState → List ℕ → ShelfState
 after_read s name =
     record s {
       reads = counted s.reads;
-      absences = (if next_fails s.reads || map.contains_key s.files name then s.absences else saturated (s.absences + 1));
+      absences = (if next_fails s.reads
+          || map.contains_key s.files name then s.absences else saturated (s.absences + 1));
     }
 
 abbrev pub read_fault_count : ShelfState → ℕ

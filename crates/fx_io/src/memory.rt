@@ -1,9 +1,37 @@
 // Contents in memory, with calls that are to fail.
-ghost use Rattle.std.specs.Prelude.{◌≡◌, ◌++◌, ◌↔◌, [], min, Some, true, IfOk, IfErr, OnOk, OnErr, IsErr, IsErrOf, IsOkAnd, IsSomeAnd, IsTrue, length, drop};
+ghost use Rattle.std.specs.Prelude.{
+  ◌≡◌,
+  ◌++◌,
+  ◌↔◌,
+  [],
+  min,
+  Some,
+  true,
+  IfOk,
+  IfErr,
+  OnOk,
+  OnErr,
+  IsErr,
+  IsErrOf,
+  IsOkAnd,
+  IsSomeAnd,
+  IsTrue,
+  length,
+  drop,
+};
 ghost use Rattle.std.specs.FinMap as map;
 ghost use Rattle.fx_io.specs.declared.shelf.IoFault.TheVariants.{Failed};
 ghost use Rattle.fx_io.specs.Shelf.{ReadsPiece};
-ghost use Rattle.fx_io.specs.Memory.{no_calls, with_failing, next_fails, counted, read_fails, after_read, seen_of_shelf, seen_of_sink};
+ghost use Rattle.fx_io.specs.Memory.{
+  no_calls,
+  with_failing,
+  next_fails,
+  counted,
+  read_fails,
+  after_read,
+  seen_of_shelf,
+  seen_of_sink,
+};
 
 use crate::call_plan::CallPlan;
 use crate::file_list::{FileList, copy_piece};
@@ -38,7 +66,13 @@ impl MemShelf {
     ///
     /// None: a shelf without files takes no memory.
     pub fn new(alloc: Global) -> Result<MemShelf, AllocError>
-        ensures { IsOkAnd result (λ s. s ≡ record { files = map.empty; reads = no_calls; places = no_calls; absences = 0 }) }
+        ensures { IsOkAnd result (λ s. s ≡ record {
+          files = map.empty;
+          reads = no_calls;
+          places =
+              no_calls;
+          absences = 0;
+        }) }
     {
         Ok(MemShelf {
             files: FileList::new(alloc),

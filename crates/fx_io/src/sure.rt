@@ -1,5 +1,20 @@
 // Contents in memory, without faults.
-ghost use Rattle.std.specs.Prelude.{◌≡◌, ◌++◌, Some, [], IsTrue, IfOk, OnOk, OnErr, IsOkAnd, IsSomeAnd, IsOkUnless, min, drop, length};
+ghost use Rattle.std.specs.Prelude.{
+  ◌≡◌,
+  ◌++◌,
+  Some,
+  [],
+  IsTrue,
+  IfOk,
+  OnOk,
+  OnErr,
+  IsOkAnd,
+  IsSomeAnd,
+  IsOkUnless,
+  min,
+  drop,
+  length,
+};
 ghost use Rattle.std.specs.FinMap as map;
 ghost use Rattle.fx_io.specs.declared.shelf.IoFault.TheVariants.{NoMemory};
 ghost use Rattle.fx_io.specs.Memory.{seen_of_bytes, seen_of_files};

@@ -1,5 +1,7 @@
 -- In a table whose keys ascend, no key before an entry stands behind it.
-use Rattle.std.proofs.Common.{◌≡◌, ℕ, nat_cmp, Ordering, Less, Equal, Greater, Bool, true, ◌&&◌, List, [], ◌∷◌, Option, Some, None, IsSome, Result, Err, refl, sym, ap, ◌∙◌, subst, inl, inr, ◌⊎◌, is_some}
+use Rattle.std.proofs.Common.{◌≡◌, ℕ, nat_cmp, Ordering, Less, Equal, Greater, Bool, true, ◌&&◌, List, [], ◌∷◌}
+use Rattle.std.proofs.Common.{Option, Some, None, IsSome, Result, Err, refl, sym, ap, ◌∙◌, subst, inl, inr, ◌⊎◌}
+use Rattle.std.proofs.Common.{is_some}
 use Rattle.std.proofs.lemmas.Bool.{cases_Bool, and_parts, false≢true}
 use Rattle.std.proofs.lemmas.Cmp.{nat_list_cmp_total}
 use Rattle.std.proofs.lemmas.Map.Text.{is_eq-slice_cmp}
@@ -25,7 +27,8 @@ abbrev pub ascends : Members → Bool
 ascends no_members = true
 ascends (member k d ms) = is_before k ms && ascends ms
 
-none_before : (l k : List ℕ) (ms : Members) → slice_cmp nat_cmp l k ≡ Less → is_before k ms ≡ true → ascends ms ≡ true → get_member l ms ≡ None
+none_before : (l k : List ℕ) (ms : Members) → slice_cmp nat_cmp l k ≡ Less → is_before k ms ≡ true →
+    ascends ms ≡ true → get_member l ms ≡ None
 none_before l k no_members a b c = refl
 none_before l k (member j d ms) a b c =
     let order = nat_list_cmp_total.trans l k j a (below_from k j b) in
@@ -39,12 +42,14 @@ same_itself k = (Equal-is (slice_cmp nat_cmp k k)).0 (is_eq-slice_cmp k k ∙ (b
 same_bytes : (l j : List ℕ) → slice_cmp nat_cmp l j ≡ Equal → l ≡ j
 same_bytes l j e = (bytes_eq-Decides l j).0 (sym (is_eq-slice_cmp l j) ∙ (Equal-is (slice_cmp nat_cmp l j)).1 e)
 
-found_later : (o : Ordering) (d : Data) (rest : Option Data) → IsSome rest → IsSome (match_ordering o rest (Some d) rest)
+found_later : (o : Ordering) (d : Data) (rest : Option Data) → IsSome rest →
+    IsSome (match_ordering o rest (Some d) rest)
 found_later Less d rest h = h
 found_later Equal d rest h = refl
 found_later Greater d rest h = h
 
-found_where : (o : Ordering) (d : Data) (rest : Option Data) → IsSome (match_ordering o rest (Some d) rest) → (o ≡ Equal) ⊎ IsSome rest
+found_where : (o : Ordering) (d : Data) (rest : Option Data) → IsSome (match_ordering o rest (Some d) rest) →
+    (o ≡ Equal) ⊎ IsSome rest
 found_where Less d rest h = inr h
 found_where Equal d rest h = inl refl
 found_where Greater d rest h = inr h
@@ -66,12 +71,15 @@ first_unknown (member j d ms) a known k e =
             ];
           }
       | inr other ↦
-          let told : ◌≡◌ {A = Result (Unit {0}) FilterFault} (Err (UnknownKey j)) (Err (UnknownKey k)) = rw other at e in
+          let told : ◌≡◌ {A = Result (Unit {0}) FilterFault} (Err (UnknownKey j)) (Err (UnknownKey k)) =
+          rw other at e in
           let same : j ≡ k = cc in
           subst (λ i. IsFirstUnknown known (member j d ms) i) same (record {
             there = rw (same_itself j) refl;
             unknown = other;
-            first = λ l h b. absurd (false≢true (ap (λ (o : Option Data). is_some o) (sym (none_before l j ms (below_from l j b) next more)) ∙ (rw (below_from l j b) at h)));
+            first = λ l h b. absurd (false≢true (ap (λ (o : Option Data).
+                is_some o) (sym (none_before l j ms (below_from l j b) next more))
+                ∙ (rw (below_from l j b) at h)));
           })
     ]
 

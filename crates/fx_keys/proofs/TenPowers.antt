@@ -1,5 +1,6 @@
 -- A numeral is read as a fraction over a power of ten.
-use Rattle.std.proofs.Common.{ℕ, length, ◌==◌, ◌*◌, ◌^◌, ◌+◌, nat_lt, List, Bool, true, false, Result, Ok, Err, refl, if◌then◌else◌}
+use Rattle.std.proofs.Common.{ℕ, length, ◌==◌, ◌*◌, ◌^◌, ◌+◌, nat_lt, List, Bool, true, false, Result, Ok, Err}
+use Rattle.std.proofs.Common.{refl, if◌then◌else◌}
 use Rattle.std.proofs.Math.IntN.{ℤ, pos, negsuc, ◌+ℤ◌, ◌-ℤ◌}
 use Rattle.fx_nums.specs.Fraction.{Fraction}
 use Rattle.fx_decimal.specs.Faults.{numeral, parts_in, and_then}
@@ -27,7 +28,8 @@ of_scaled negative n (negsuc q) = either (nat_lt q 28) _ _ (of_bounded negative 
 of_limited : (negative : Bool) (n : ℕ) (p : ℤ) → IsOverTen (limited negative n p)
 of_limited negative n p = either (n == 0) _ _ refl (either (nat_lt n (10 ^ 18)) _ _ (of_scaled negative n p) tt)
 
-of_digits : (negative : Bool) (ds : List ℕ) (after : ℕ) (exponent : ℤ) → IsOverTen (digits_value negative ds after exponent)
+of_digits : (negative : Bool) (ds : List ℕ) (after : ℕ) (exponent : ℤ) →
+    IsOverTen (digits_value negative ds after exponent)
 unfolding digits_value
 of_digits negative ds after exponent =
     let kept = without_zeros (length ds) (number_from 0 ds) in

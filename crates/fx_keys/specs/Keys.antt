@@ -5,7 +5,8 @@ use Rattle.fx_math.specs.declared.words.TheConstants.{GREATEST_WIDTH}
 use Rattle.fx_keys.specs.declared.key.Key.{Key}
 use Rattle.fx_keys.specs.declared.key.Key.TheVariants as key
 use Rattle.fx_keys.specs.declared.limits.Range.{Range}
-use Rattle.fx_keys.specs.declared.limits.TheConstants.{NO_NUMBERS, LOWS, WIDTHS, ACCUMULATOR_WIDTHS, BOUNDS, GUARDS, FRACTIONS, LENGTHS}
+use Rattle.fx_keys.specs.declared.limits.TheConstants.{NO_NUMBERS, LOWS, WIDTHS, ACCUMULATOR_WIDTHS, BOUNDS}
+use Rattle.fx_keys.specs.declared.limits.TheConstants.{GUARDS, FRACTIONS, LENGTHS}
 use Rattle.fx_keys.specs.declared.limits.TheConstants.{LIST_ENTRIES}
 use Rattle.fx_keys.specs.declared.limits.TheConstants.{DEFAULT_GUARDS, DEFAULT_FRACTIONS, DEFAULT_LENGTHS}
 

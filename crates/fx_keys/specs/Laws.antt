@@ -11,8 +11,10 @@ use Rattle.fx_keys.specs.declared.fault.FilterFault.TheVariants.{UnknownKey}
 pub record IsFirstUnknown (known : List Key) (t : Members) (text : List ℕ) : Type 0 where
   pub there : IsSome (get_member text t)
   pub unknown : is_known known text ≡ false
-  pub first : (other : List ℕ) → IsSome (get_member other t) → is_lt (slice_cmp nat_cmp other text) ≡ true → is_known known other ≡ true
+  pub first : (other : List ℕ) → IsSome (get_member other t) → is_lt (slice_cmp nat_cmp other text) ≡ true →
+      is_known known other ≡ true
 
 -- the unknown key that is answered is the first of its table
 abbrev pub FirstUnknown : Members → Type 0
-FirstUnknown t = (known : List Key) (text : List ℕ) → only_keys known t ≡ Err (UnknownKey text) → IsFirstUnknown known t text
+FirstUnknown t = (known : List Key) (text : List ℕ) → only_keys known t ≡ Err (UnknownKey text) →
+    IsFirstUnknown known t text

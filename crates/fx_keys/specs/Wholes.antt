@@ -23,7 +23,8 @@ integer_or k default t = option_map_or (integer_at k) (get_member (own_name k) t
 -- a number of a range; else the end of it that is nearer is told
 abbrev pub ranged : Key → Range → ℤ → Result ℤ FilterFault
 ranged k range z =
-    if lt_z z range.low then Err (Limit k z range.low) else if lt_z range.high z then Err (Limit k z range.high) else Ok z
+    if lt_z z range.low then Err (Limit k z range.low) else if lt_z range.high z then Err
+    (Limit k z range.high) else Ok z
 
 abbrev pub whole_or : Key → Range → Option ℤ → Members → Result ℤ FilterFault
 whole_or k range default t = do

@@ -4,7 +4,19 @@ ghost use Rattle.fx_decimal.specs.Faults.{numeral};
 ghost use Rattle.std.specs.Prelude.{◌≡◌, ◌≤◌, ◌<◌, ◌+◌, ◌*◌, ◌^◌, length, All, IfOk, is_some};
 ghost use Rattle.toml.specs.View.{view, table_view, items_view};
 ghost use Rattle.fx_nums.specs.Fraction.{OverTen};
-ghost use Rattle.fx_keys.specs.Numerals.{all_numerals, all_rows, each_exactly, each_numeral, each_row, entries_in, matrix, numeral_at, numeral_text, row_of, rows_in};
+ghost use Rattle.fx_keys.specs.Numerals.{
+  all_numerals,
+  all_rows,
+  each_exactly,
+  each_numeral,
+  each_row,
+  entries_in,
+  matrix,
+  numeral_at,
+  numeral_text,
+  row_of,
+  rows_in,
+};
 ghost use Rattle.fx_keys.specs.Faults.{is_memory, seen};
 ghost use Rattle.fx_math.specs.Answers.{Gives};
 
@@ -88,8 +100,8 @@ pub fn each_numeral(
     Ok(found)
 }
 
-/// The list of numerals at a key: else `Missing`, or `WrongKind` where it is no list or an entry is neither a text nor a
-/// whole number.
+/// The list of numerals at a key: else `Missing`, or `WrongKind` where it is no list or an entry is neither a text nor
+/// a whole number.
 #[tactic(auto, unfolding(crate::specs::Numerals::entries_in))]
 pub fn entries_of(table: &Table, key: Key) -> Result<&[Value], FilterFault>
     ensures { seen (λ s. items_view s.now) result ≡ entries_in key (table_view table.now) }

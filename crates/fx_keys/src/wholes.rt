@@ -6,7 +6,19 @@ ghost use Rattle.fx_math.specs.Answers.{Gives};
 ghost use Rattle.fx_keys.specs.Faults.{is_memory};
 ghost use Rattle.fx_keys.specs.Fits.{NaturalsFit};
 ghost use Rattle.fx_keys.specs.Keys.{IsNatural, IsWithin, range_of};
-ghost use Rattle.fx_keys.specs.Wholes.{all_whole, each_natural, integer_at, integer_or, natural_at, natural_in, naturals, naturals_in, ranged, whole_in, whole_or};
+ghost use Rattle.fx_keys.specs.Wholes.{
+  all_whole,
+  each_natural,
+  integer_at,
+  integer_or,
+  natural_at,
+  natural_in,
+  naturals,
+  naturals_in,
+  ranged,
+  whole_in,
+  whole_or,
+};
 
 use crate::entries::{at_most, list_at, some};
 use crate::fault::FilterFault;
@@ -25,8 +37,8 @@ fn integer_at(value: &Value, key: Key) -> Result<i64, FilterFault>
     }
 }
 
-/// The whole number at a key, of any size, with this default in place of the key's own: `Missing` where it is absent and
-/// has no default, `WrongKind` for other values.
+/// The whole number at a key, of any size, with this default in place of the key's own: `Missing` where it is absent
+/// and has no default, `WrongKind` for other values.
 pub fn integer_or(table: &Table, key: Key, default: Option<i64>) -> Result<i64, FilterFault>
     ensures { result ≡ integer_or key default (table_view table.now) }
 {

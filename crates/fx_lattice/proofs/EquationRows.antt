@@ -1,18 +1,22 @@
 -- The equations of a lattice meet its rows.
-use Rattle.std.proofs.Common.{◌≡◌, inl, inr, ℕ, zero, suc, ◌+◌, ◌-◌, ◌*◌, ◌<◌, ◌≤◌, eqb, List, ◌++◌, length, refl, arith, sym, ap, ap₂, ◌∙◌}
+use Rattle.std.proofs.Common.{◌≡◌, inl, inr, ℕ, zero, suc, ◌+◌, ◌-◌, ◌*◌, ◌<◌, ◌≤◌, eqb, List, ◌++◌, length}
+use Rattle.std.proofs.Common.{refl, arith, sym, ap, ap₂, ◌∙◌}
 use Rattle.std.proofs.Math.IntN.{ℤ, pos, ◌+ℤ◌, ◌*ℤ◌}
 use Rattle.std.proofs.lemmas.Bool.{cond-false, cond-true, eq-eqb, ne_eqb}
 use Rattle.fx_math.specs.Unroll.{before}
 use Rattle.fx_nums.specs.Fraction.{Fraction, minus, one_fraction}
-use Rattle.fx_eqs.specs.Textbook.{backward, backward_rows, forward, forward_rows, lattice_equations, lattice_terms, over_sources}
+use Rattle.fx_eqs.specs.Textbook.{backward, backward_rows, forward, forward_rows, lattice_equations}
+use Rattle.fx_eqs.specs.Textbook.{lattice_terms, over_sources}
 use Rattle.fx_eqs.specs.declared.term.Source.TheVariants.{Row, In}
 use Rattle.fx_eqs.specs.declared.term.Term.{Term}
 use Rattle.fx_sif.specs.Entries.{coefficient}
 use Rattle.fx_sif.proofs.Earlier.{ago}
 use Rattle.fx_sif.proofs.EquationsAtScale.{EquationsMeet}
-use Rattle.fx_sif.proofs.LagSums.{column_sum, lag_sum, lag_sum-back, lag_sum-front, lag_sum-kept, lag_sum-other_sources, lag_sum-over_sources, sequence}
+use Rattle.fx_sif.proofs.LagSums.{column_sum, lag_sum, lag_sum-back, lag_sum-front, lag_sum-kept}
+use Rattle.fx_sif.proofs.LagSums.{lag_sum-other_sources, lag_sum-over_sources, sequence}
 use Rattle.fx_sif.proofs.OneScale.{no_weight, weight}
-use Rattle.fx_lattice.proofs.EquationSums.{backward_here, backward_none, backward_sum, forward_here, forward_none, forward_sum}
+use Rattle.fx_lattice.proofs.EquationSums.{backward_here, backward_none, backward_sum, forward_here}
+use Rattle.fx_lattice.proofs.EquationSums.{forward_none, forward_sum}
 use Rattle.fx_lattice.proofs.Ladders.{IsLadder, above}
 
 -- ---- what is read
@@ -38,11 +42,13 @@ read_above y u k n (suc r) h =
     ap (λ from. sequence y u from k) (forward_row_is n i (omega arith) ∙ ap Row here)
 
 read_back : (y u : ℕ → ℕ → ℤ) (k n i : ℕ) → i < n → ago (sequence y u (backward n i)) k 1 ≡ before y k (n - 1 + i)
-read_back y u k n i h = ap (λ from. ago (sequence y u from) k 1) (backward_row_is n i (omega arith)) ∙ ago_before y u k (n - 1 + i)
+read_back y u k n i h = ap (λ from. ago (sequence y u from) k 1) (backward_row_is n i (omega arith))
+    ∙ ago_before y u k (n - 1 + i)
 
 -- ---- the rows
 
-module _ (c v : List Fraction) (q g last : ℕ) (y u : ℕ → ℕ → ℤ) (meet : EquationsMeet (lattice_equations c v) q g last y u) where
+module _ (c v : List Fraction) (q g last : ℕ) (y u : ℕ → ℕ →
+    ℤ) (meet : EquationsMeet (lattice_equations c v) q g last y u) where
   abbrev n : ℕ
   n = length c
 
@@ -65,7 +71,8 @@ module _ (c v : List Fraction) (q g last : ℕ) (y u : ℕ → ℕ → ℤ) (mee
   no_taps : (k i : ℕ) → i < 2 * n → lag_sum w y u k i taps ≡ pos 0
   no_taps k i h = lag_sum-other_sources w y u k i (2 * n) (backward n) 0 0 v (λ same. omega (arith, h, same))
 
-  of_forward : (k r : ℕ) → k ≤ last → r < n → pos (q * g) *ℤ y k r ≡ forward_sum w y u k n (n - 1 - r) (coefficient c (n - 1 - r))
+  of_forward : (k r : ℕ) → k ≤ last → r < n → pos (q * g) *ℤ y k r
+      ≡ forward_sum w y u k n (n - 1 - r) (coefficient c (n - 1 - r))
   of_forward k r h l =
       let m = n - 1 - r in
       let here : n - 1 - (0 + m) ≡ r = omega arith in
@@ -88,20 +95,24 @@ module _ (c v : List Fraction) (q g last : ℕ) (y u : ℕ → ℕ → ℤ) (mee
       ∙ backward_here w y u k n 0 i c l
       ∙ ap (λ j. backward_sum w y u k n j (coefficient c i)) none
 
-  pub of_output : (k : ℕ) → k ≤ last → pos (q * g) *ℤ y k (2 * n) ≡ column_sum w (λ j. ago (sequence y u (backward n j)) k 0) 0 v
+  pub of_output : (k : ℕ) → k ≤ last → pos (q * g) *ℤ y k (2 * n)
+      ≡ column_sum w (λ j. ago (sequence y u (backward n j)) k 0) 0 v
   of_output k h =
       let r = 2 * n in
       of_row k r h (omega arith)
       ∙ lag_sum-back w y u k r (forwards ++ backwards) taps
-      (lag_sum-front w y u k r forwards backwards (backward_none w y u k n 0 r c (inr (omega arith))) ∙ forward_none w y u k n 0 r c (omega arith) (omega arith))
+      (lag_sum-front w y u k r forwards backwards (backward_none w y u k n 0 r c (inr (omega arith)))
+      ∙ forward_none w y u k n 0 r c (omega arith) (omega arith))
       ∙ lag_sum-over_sources w y u k r (backward n) 0 0 v
 
   pub equations_ladder : IsLadder (weight q g) (q * g) last c u y
   equations_ladder = record {
     forward = λ k r h l.
         of_forward k r h l
-        ∙ ap₂ (λ a b. w one_fraction *ℤ a +ℤ w (minus (coefficient c (n - 1 - r))) *ℤ b) (read_above y u k n r l) (read_back y u k n (n - 1 - r) (omega arith));
+        ∙ ap₂ (λ a b. w one_fraction *ℤ a +ℤ w (minus (coefficient c (n - 1 - r))) *ℤ b)
+        (read_above y u k n r l) (read_back y u k n (n - 1 - r) (omega arith));
     backward = λ k i h l.
         of_backward k i h l
-        ∙ ap₂ (λ a b. w (coefficient c i) *ℤ a +ℤ w one_fraction *ℤ b) (ap (λ from. sequence y u from k) (forward_row_is n i l)) (read_back y u k n i l);
+        ∙ ap₂ (λ a b. w (coefficient c i) *ℤ a +ℤ w one_fraction *ℤ b)
+        (ap (λ from. sequence y u from k) (forward_row_is n i l)) (read_back y u k n i l);
   }

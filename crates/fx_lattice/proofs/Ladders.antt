@@ -1,5 +1,6 @@
 -- Values that meet the rows of a lattice are the same.
-use Rattle.std.proofs.Common.{◌≡◌, ◌⊎◌, inl, inr, ℕ, zero, suc, ◌+◌, ◌-◌, ◌*◌, ◌<◌, ◌≤◌, List, length, refl, arith, sym, ap, ap₂, subst, ◌∙◌}
+use Rattle.std.proofs.Common.{◌≡◌, ◌⊎◌, inl, inr, ℕ, zero, suc, ◌+◌, ◌-◌, ◌*◌, ◌<◌, ◌≤◌, List, length, refl}
+use Rattle.std.proofs.Common.{arith, sym, ap, ap₂, subst, ◌∙◌}
 use Rattle.std.proofs.Math.IntN.{ℤ, pos, ◌+ℤ◌, ◌*ℤ◌}
 use Rattle.std.proofs.lemmas.Bool.{cases_lt}
 use Rattle.fx_math.specs.Unroll.{before}
@@ -15,11 +16,14 @@ above z u k (suc r) = z k r
 -- rows that go forward, from the input down, and then rows that come back; the first of these is the last of those
 pub record IsLadder (w : Fraction → ℤ) (d last : ℕ) (ks : List Fraction) (u z : ℕ → ℕ → ℤ) : Type 0 where
   pub forward : (k r : ℕ) → k ≤ last → r < length ks →
-      pos d *ℤ z k r ≡ w one_fraction *ℤ above z u k r +ℤ w (minus (coefficient ks (length ks - 1 - r))) *ℤ before z k (length ks - 1 + (length ks - 1 - r))
+      pos d *ℤ z k r ≡ w one_fraction *ℤ above z u k r +ℤ w (minus (coefficient ks (length ks - 1 - r))) *ℤ
+      before z k (length ks - 1 + (length ks - 1 - r))
   pub backward : (k i : ℕ) → k ≤ last → i < length ks →
-      pos d *ℤ z k (length ks + i) ≡ w (coefficient ks i) *ℤ z k (length ks - 1 - i) +ℤ w one_fraction *ℤ before z k (length ks - 1 + i)
+      pos d *ℤ z k (length ks + i)
+      ≡ w (coefficient ks i) *ℤ z k (length ks - 1 - i) +ℤ w one_fraction *ℤ before z k (length ks - 1 + i)
 
-module _ (w : Fraction → ℤ) (d last : ℕ) (ks : List Fraction) (u x y : ℕ → ℕ → ℤ) (positive : 0 < d) (of_x : IsLadder w d last ks u x) (of_y : IsLadder w d last ks u y) where
+module _ (w : Fraction → ℤ) (d last : ℕ) (ks : List Fraction) (u x y : ℕ → ℕ →
+    ℤ) (positive : 0 < d) (of_x : IsLadder w d last ks u x) (of_y : IsLadder w d last ks u y) where
   abbrev n : ℕ
   n = length ks
 
@@ -31,19 +35,22 @@ module _ (w : Fraction → ℤ) (d last : ℕ) (ks : List Fraction) (u x y : ℕ
   forward_same k zero h old l =
       cancelled d (x k 0) (y k 0) positive
       (of_x.forward k 0 h l
-      ∙ ap (λ v. w one_fraction *ℤ u k 0 +ℤ w (minus (coefficient ks (n - 1 - 0))) *ℤ v) (old (n - 1 + (n - 1 - 0)) (omega arith))
+      ∙ ap (λ v. w one_fraction *ℤ u k 0 +ℤ w (minus (coefficient ks (n - 1 - 0))) *ℤ v)
+      (old (n - 1 + (n - 1 - 0)) (omega arith))
       ∙ sym (of_y.forward k 0 h l))
   forward_same k (suc r) h old l =
       cancelled d (x k (suc r)) (y k (suc r)) positive
       (of_x.forward k (suc r) h l
-      ∙ ap₂ (λ a v. w one_fraction *ℤ a +ℤ w (minus (coefficient ks (n - 1 - suc r))) *ℤ v) (forward_same k r h old (omega arith)) (old (n - 1 + (n - 1 - suc r)) (omega arith))
+      ∙ ap₂ (λ a v. w one_fraction *ℤ a +ℤ w (minus (coefficient ks (n - 1 - suc r))) *ℤ v)
+      (forward_same k r h old (omega arith)) (old (n - 1 + (n - 1 - suc r)) (omega arith))
       ∙ sym (of_y.forward k (suc r) h l))
 
   backward_same : (k i : ℕ) → k ≤ last → SameBefore k → i < n → x k (n + i) ≡ y k (n + i)
   backward_same k i h old l =
       cancelled d (x k (n + i)) (y k (n + i)) positive
       (of_x.backward k i h l
-      ∙ ap₂ (λ a v. w (coefficient ks i) *ℤ a +ℤ w one_fraction *ℤ v) (forward_same k (n - 1 - i) h old (omega arith)) (old (n - 1 + i) (omega arith))
+      ∙ ap₂ (λ a v. w (coefficient ks i) *ℤ a +ℤ w one_fraction *ℤ v)
+      (forward_same k (n - 1 - i) h old (omega arith)) (old (n - 1 + i) (omega arith))
       ∙ sym (of_y.backward k i h l))
 
   moment_same : (k : ℕ) → k ≤ last → SameBefore k → (r : ℕ) → r < 2 * n → x k r ≡ y k r

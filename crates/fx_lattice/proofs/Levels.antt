@@ -1,5 +1,7 @@
 -- One order after the other encloses the exact values of that order.
-use Rattle.std.proofs.Common.{◌≡◌, ℕ, zero, suc, ◌+◌, ◌-◌, ◌*◌, ◌^◌, ◌<◌, ◌≤◌, Bool, true, false, List, [], ◌∷◌, ◌++◌, length, Option, Some, None, option_and_then, Result, Ok, Err, refl, sym, ◌∙◌, arith, subst, lit<, ◌⊎◌, inl, inr, pos, ◌*ℤ◌, ◌≤ℤ◌}
+use Rattle.std.proofs.Common.{◌≡◌, ℕ, zero, suc, ◌+◌, ◌-◌, ◌*◌, ◌^◌, ◌<◌, ◌≤◌, Bool, true, false, List, [], ◌∷◌}
+use Rattle.std.proofs.Common.{◌++◌, length, Option, Some, None, option_and_then, Result, Ok, Err, refl, sym}
+use Rattle.std.proofs.Common.{◌∙◌, arith, subst, lit<, ◌⊎◌, inl, inr, pos, ◌*ℤ◌, ◌≤ℤ◌}
 use Rattle.std.proofs.Math.Nat.{one-le-mul, one-le-pow}
 use Rattle.std.proofs.lemmas.Bool.{cases_eq}
 use Rattle.std.proofs.lemmas.Int.{ints}
@@ -15,13 +17,17 @@ use Rattle.fx_nums.specs.declared.fraction.Den.{Den}
 use Rattle.fx_nums.specs.declared.fraction.Den.TheVariants.{Two, Ten}
 use Rattle.fx_eqs.specs.declared.limits.TheConstants.{REFLECTIONS}
 use Rattle.fx_eqs.specs.Values.{difference_of, product_of, value_of, whole}
-use Rattle.fx_lattice.specs.Exact.{Enclosures, EnclosesExact, EnclosesLattice, EnclosesOrder, MeetsStepDown, OrdersEnclose, below, one_less_square, orders_down}
+use Rattle.fx_lattice.specs.Exact.{Enclosures, EnclosesExact, EnclosesLattice, EnclosesOrder, MeetsStepDown}
+use Rattle.fx_lattice.specs.Exact.{OrdersEnclose, below, one_less_square, orders_down}
 use Rattle.fx_lattice.specs.Lattice.{Lattice, LatticeFits, at, reflection, tap}
 use Rattle.fx_lattice.specs.Operations.{is_below_one, less_product, one_point, quotient}
-use Rattle.fx_lattice.specs.StepDown.{behind, coefficient, down, enclosed, enclosures, gathered, greater_order, listed, lower_a, lower_b, lower_denominator, lower_numerator, step_down, with_rung}
+use Rattle.fx_lattice.specs.StepDown.{behind, coefficient, down, enclosed, enclosures, gathered, greater_order}
+use Rattle.fx_lattice.specs.StepDown.{listed, lower_a, lower_b, lower_denominator, lower_numerator, step_down}
+use Rattle.fx_lattice.specs.StepDown.{with_rung}
 use Rattle.fx_lattice.specs.declared.refusal.Step.{Step}
 use Rattle.fx_lattice.specs.declared.refusal.Step.TheVariants.{NotBelowOne, Range}
-use Rattle.fx_lattice.proofs.Enclosing.{less_product_encloses, less_product_ordered, one_encloses, quotient_encloses, same_encloses}
+use Rattle.fx_lattice.proofs.Enclosing.{less_product_encloses, less_product_ordered, one_encloses}
+use Rattle.fx_lattice.proofs.Enclosing.{quotient_encloses, same_encloses}
 
 -- ---- lists by their places
 
@@ -45,7 +51,8 @@ record IsGathered (n : ℕ) (f : ℕ → Option Interval) (xs : List Interval) :
   pub long : length xs ≡ n
   pub each : (j : ℕ) → j < n → f j ≡ Some (at xs j)
 
-one_more : (n : ℕ) (f : ℕ → Option Interval) (xs : List Interval) (x : Interval) → IsGathered n f xs → f n ≡ Some x → IsGathered (suc n) f (xs ++ x ∷ [])
+one_more : (n : ℕ) (f : ℕ → Option Interval) (xs : List Interval) (x : Interval) → IsGathered n f xs →
+    f n ≡ Some x → IsGathered (suc n) f (xs ++ x ∷ [])
 one_more n f xs x h e = record {
   long = length-append xs (x ∷ []) ∙ (let l = h.long in omega arith);
   each = λ j l. by_place j l (cases_eq j n);
@@ -88,26 +95,32 @@ lower_a_encloses i j a d x u w q k made ordered d_held k_over u_over w_over u_he
     (λ n is also.
     let held = less_product_encloses (behind a j) (behind a i) (behind a (i - j)) n u k w is u_held k_held w_held in
     let over = difference_over u (product_of k w) u_over (both_over k.den w.den k_over w_over) in
-    let scaled = same_encloses n (difference_of u (product_of k w)) (product_of q (one_less_square k)) over held (sym same) in
-    let divisor_over = difference_over (whole (pos 1)) (product_of k k) (lit< tt) (both_over k.den k.den k_over k_over) in
+    let scaled = same_encloses n (difference_of u (product_of k w)) (product_of q (one_less_square k)) over
+    held (sym same) in
+    let divisor_over = difference_over (whole (pos 1)) (product_of k k) (lit< tt)
+    (both_over k.den k.den k_over k_over) in
     quotient_encloses n d x q (one_less_square k) also ordered divisor_over d_held scaled)
 
 -- so does the denominator
 denominator_below : (i : ℕ) (a lower : List Interval) (p r : ℕ → Ratio) (k : Ratio)
     → ((j : ℕ) → 0 < (p j).den) → 0 < k.den
     → ((j : ℕ) → 1 ≤ j → j ≤ i → Encloses (behind a j) (p j)) → Encloses (behind a i) k
-    → ((j : ℕ) → 1 ≤ j → j < i → SameValue (product_of (r j) (one_less_square k)) (difference_of (p j) (product_of k (p (i - j)))))
+    → ((j : ℕ) → 1 ≤ j → j < i →
+    SameValue (product_of (r j) (one_less_square k)) (difference_of (p j) (product_of k (p (i - j)))))
     → lower_denominator i a ≡ Some lower → (j : ℕ) → 1 ≤ j → j ≤ i - 1 → Encloses (behind lower j) (r j)
 unfolding lower_denominator
 denominator_below i a lower p r k p_over k_over held k_held meets made j low high =
-    option_and_then_some (λ d. gathered (i - 1) (λ s. lower_a i a d (s + 1))) (less_product one_point (behind a i) (behind a i)) lower made
+    option_and_then_some (λ d. gathered (i - 1) (λ s. lower_a i a d (s + 1)))
+    (less_product one_point (behind a i) (behind a i)) lower made
     (λ d is also.
     let each = (gathered_is (i - 1) (λ s. lower_a i a d (s + 1)) lower also).each (j - 1) (omega arith) in
     let here : j - 1 + 1 ≡ j = omega arith in
     let entry = subst (λ n. lower_a i a d n ≡ Some (behind lower j)) here each in
-    let d_held = less_product_encloses one_point (behind a i) (behind a i) d (whole (pos 1)) k k is one_encloses k_held k_held in
+    let d_held = less_product_encloses one_point (behind a i) (behind a i) d (whole (pos 1)) k k is
+    one_encloses k_held k_held in
     let ordered = less_product_ordered one_point (behind a i) (behind a i) d is (omega (arith, ints)) in
-    lower_a_encloses i j a d (behind lower j) (p j) (p (i - j)) (r j) k entry ordered d_held k_over (p_over j) (p_over (i - j))
+    lower_a_encloses i j a d (behind lower j) (p j) (p (i - j)) (r j) k entry ordered d_held k_over (p_over j)
+    (p_over (i - j))
     (held j low (omega arith)) k_held (held (i - j) (omega arith) (omega arith)) (meets j low (omega arith)))
 
 -- and the numerator
@@ -119,8 +132,10 @@ numerator_below : (i : ℕ) (a b upper : List Interval) (p q s : ℕ → Ratio) 
 unfolding lower_numerator lower_b
 numerator_below i a b upper p q s v p_over q_over v_over held v_held meets made j low =
     let each = (gathered_is i (lower_b i a b) upper made).each j low in
-    let inside = less_product_encloses (at b j) (at b i) (behind a (i - j)) (at upper j) (q j) v (p (i - j)) each (held.numerator j (omega arith)) v_held (held.denominator (i - j) (omega arith) (omega arith)) in
-    let over = difference_over (q j) (product_of v (p (i - j))) (q_over j) (both_over v.den (p (i - j)).den v_over (p_over (i - j))) in
+    let inside = less_product_encloses (at b j) (at b i) (behind a (i - j)) (at upper j) (q j) v (p (i - j))
+    each (held.numerator j (omega arith)) v_held (held.denominator (i - j) (omega arith) (omega arith)) in
+    let over = difference_over (q j) (product_of v (p (i - j))) (q_over j)
+    (both_over v.den (p (i - j)).den v_over (p_over (i - j))) in
     same_encloses (at upper j) (difference_of (q j) (product_of v (p (i - j)))) (s j) over inside (sym (meets j low))
 
 -- ---- all steps
@@ -136,18 +151,25 @@ record Descends (m : ℕ) (a b : List Interval) (l : Lattice) : Type 0 where
   pub is : with_rung (behind a (suc m)) (at b (suc m)) rest ≡ l
 
 descends : (m : ℕ) (a b : List Interval) (l : Lattice) → down (suc m) a b ≡ Ok l → Descends m a b l
-descends m a b l h = by_parts (is_below_one (behind a (suc m))) (lower_denominator (suc m) a) (lower_numerator (suc m) a b) refl refl h
+descends m a b l h = by_parts (is_below_one (behind a (suc m))) (lower_denominator (suc m) a)
+    (lower_numerator (suc m) a b) refl refl h
   where
     i : ℕ
     i = suc m
 
-    by_rest : (lower upper : List Interval) (r : Result Lattice Step) → lower_denominator (suc m) a ≡ Some lower → lower_numerator (suc m) a b ≡ Some upper → down m lower upper ≡ r
+    by_rest : (lower upper : List Interval) (r : Result Lattice Step) →
+        lower_denominator (suc m) a ≡ Some lower → lower_numerator (suc m) a b ≡ Some upper →
+        down m lower upper ≡ r
         → (r >>= λ l. Ok (with_rung (behind a (suc m)) (at b (suc m)) l)) ≡ Ok l → Descends m a b l
     by_rest lower upper (Err fault) e f g h = cc
-    by_rest lower upper (Ok rest) e f g h = record { lower = lower; upper = upper; rest = rest; lower_is = e; upper_is = f; rest_is = g; is = cc }
+    by_rest lower upper (Ok rest) e f g h =
+        record { lower = lower; upper = upper; rest = rest; lower_is = e; upper_is = f; rest_is = g; is = cc }
 
-    by_parts : (t : Bool) (o p : Option (List Interval)) → lower_denominator (suc m) a ≡ o → lower_numerator (suc m) a b ≡ p
-        → (unless (NotBelowOne (suc m) (behind a (suc m))) t >>= λ below_one. or_fault (Range (suc m)) o >>= λ lower. or_fault (Range (suc m)) p >>= λ upper. down m lower upper >>= λ l. Ok (with_rung (behind a (suc m)) (at b (suc m)) l)) ≡ Ok l
+    by_parts : (t : Bool) (o p : Option (List Interval)) → lower_denominator (suc m) a ≡ o →
+        lower_numerator (suc m) a b ≡ p
+        → (unless (NotBelowOne (suc m) (behind a (suc m))) t >>= λ below_one.
+        or_fault (Range (suc m)) o >>= λ lower. or_fault (Range (suc m)) p >>= λ upper.
+        down m lower upper >>= λ l. Ok (with_rung (behind a (suc m)) (at b (suc m)) l)) ≡ Ok l
         → Descends m a b l
     by_parts false o p e f h = cc
     by_parts true None p e f h = cc
@@ -163,7 +185,8 @@ same_ok : (x y : Lattice) → ◌≡◌ {A = Result Lattice Step} (Ok x) (Ok y) 
 same_ok x y h = cc
 
 pub sizes_of : (i : ℕ) (a b : List Interval) (l : Lattice) → down i a b ≡ Ok l → HasSizes i l
-sizes_of zero a b l h = subst (HasSizes zero) (same_ok (record { k = []; v = at b 0 ∷ [] }) l h) (record { reflections = refl; taps = refl })
+sizes_of zero a b l h = subst (HasSizes zero) (same_ok (record { k = []; v = at b 0 ∷ [] }) l h)
+    (record { reflections = refl; taps = refl })
 sizes_of (suc m) a b l h =
     let d = descends m a b l h in
     let below = sizes_of m d.lower d.upper d.rest d.rest_is in
@@ -173,13 +196,16 @@ sizes_of (suc m) a b l h =
     })
 
 -- one rung more
-rung_encloses : (m : ℕ) (x y : Interval) (l : Lattice) (k v : ℕ → Ratio) → HasSizes m l → EnclosesLattice m l k v → Encloses x (k (suc m)) → Encloses y (v (suc m)) → EnclosesLattice (suc m) (with_rung x y l) k v
+rung_encloses : (m : ℕ) (x y : Interval) (l : Lattice) (k v : ℕ → Ratio) → HasSizes m l →
+    EnclosesLattice m l k v → Encloses x (k (suc m)) → Encloses y (v (suc m)) →
+    EnclosesLattice (suc m) (with_rung x y l) k v
 rung_encloses m x y l k v sizes held h g = record {
   reflections = λ i low high. reflections i low high (cases_eq i (suc m));
   taps = λ i high. taps i high (cases_eq i (suc m));
 }
   where
-    reflections : (i : ℕ) → 1 ≤ i → i ≤ suc m → (i ≡ suc m) ⊎ (i ≡ suc m → ⊥) → Encloses (reflection (with_rung x y l) i) (k i)
+    reflections : (i : ℕ) → 1 ≤ i → i ≤ suc m → (i ≡ suc m) ⊎ (i ≡ suc m → ⊥) →
+        Encloses (reflection (with_rung x y l) i) (k i)
     reflections i low high (inl same) =
         let here : i - 1 ≡ m = omega arith in
         let at_end = get_or_at l.k x [] (point (pos 0)) m sizes.reflections in
@@ -200,36 +226,46 @@ rung_encloses m x y l k v sizes held h g = record {
 
 -- the order below an order that encloses its values
 one_below : (c e : List Fraction) (n i : ℕ) (a b lower upper : List Interval) (p q : ℕ → ℕ → Ratio) (k v : ℕ → Ratio)
-    → 1 ≤ i → i ≤ n → MeetsStepDown c e n p q k v → EnclosesOrder i a b (p i) (q i) → lower_denominator i a ≡ Some lower → lower_numerator i a b ≡ Some upper
+    → 1 ≤ i → i ≤ n → MeetsStepDown c e n p q k v → EnclosesOrder i a b (p i) (q i) →
+    lower_denominator i a ≡ Some lower → lower_numerator i a b ≡ Some upper
     → EnclosesOrder (i - 1) lower upper (p (i - 1)) (q (i - 1))
 one_below c e n i a b lower upper p q k v some few meets held of_lower of_upper =
-    let k_held = same_encloses (behind a i) (p i i) (k i) (meets.p_over i i) (held.denominator i some (omega arith)) (sym (meets.k_last i some few)) in
-    let v_held = same_encloses (at b i) (q i i) (v i) (meets.q_over i i) (held.numerator i (omega arith)) (sym (meets.v_last i few)) in
+    let k_held = same_encloses (behind a i) (p i i) (k i) (meets.p_over i i)
+    (held.denominator i some (omega arith)) (sym (meets.k_last i some few)) in
+    let v_held = same_encloses (at b i) (q i i) (v i) (meets.q_over i i) (held.numerator i (omega arith))
+    (sym (meets.v_last i few)) in
     record {
       denominator = λ j low high.
           denominator_below i a lower (p i) (p (i - 1)) (k i) (meets.p_over i) (meets.k_over i) held.denominator k_held
           (λ j low high. meets.p_lower i j low high few) of_lower j low high;
       numerator = λ j high.
-          numerator_below i a b upper (p i) (q i) (q (i - 1)) (v i) (meets.p_over i) (meets.q_over i) (meets.v_over i) held v_held
+          numerator_below i a b upper (p i) (q i) (q (i - 1)) (v i) (meets.p_over i) (meets.q_over i)
+          (meets.v_over i) held v_held
           (λ j high. meets.q_lower i j high few) of_upper j (omega arith);
     }
 
-all_enclosed : (c e : List Fraction) (n i : ℕ) (a b : List Interval) (l : Lattice) (p q : ℕ → ℕ → Ratio) (k v : ℕ → Ratio)
-    → i ≤ n → MeetsStepDown c e n p q k v → EnclosesOrder i a b (p i) (q i) → down i a b ≡ Ok l → EnclosesLattice i l k v
+all_enclosed : (c e : List Fraction) (n i : ℕ) (a b : List Interval) (l : Lattice) (p q : ℕ → ℕ →
+    Ratio) (k v : ℕ → Ratio)
+    → i ≤ n → MeetsStepDown c e n p q k v → EnclosesOrder i a b (p i) (q i) → down i a b ≡ Ok l →
+    EnclosesLattice i l k v
 all_enclosed c e n zero a b l p q k v few meets held h =
     subst (λ l. EnclosesLattice zero l k v) (same_ok (record { k = []; v = at b 0 ∷ [] }) l h) (record {
       reflections = λ i low high. absurd (omega arith);
       taps = λ i high.
           let none : i ≡ 0 = omega arith in
-          rw none (same_encloses (at b 0) (q 0 0) (v 0) (meets.q_over 0 0) (held.numerator 0 (omega arith)) (sym (meets.v_last 0 few)));
+          rw none (same_encloses (at b 0) (q 0 0) (v 0) (meets.q_over 0 0) (held.numerator 0 (omega arith))
+          (sym (meets.v_last 0 few)));
     })
 all_enclosed c e n (suc m) a b l p q k v few meets held h =
     let i = suc m in
     let d = descends m a b l h in
     let less : i - 1 ≡ m = omega arith in
-    let k_held = same_encloses (behind a i) (p i i) (k i) (meets.p_over i i) (held.denominator i (omega arith) (omega arith)) (sym (meets.k_last i (omega arith) few)) in
-    let v_held = same_encloses (at b i) (q i i) (v i) (meets.q_over i i) (held.numerator i (omega arith)) (sym (meets.v_last i few)) in
-    let next = subst (λ m. EnclosesOrder m d.lower d.upper (p m) (q m)) less (one_below c e n i a b d.lower d.upper p q k v (omega arith) few meets held d.lower_is d.upper_is) in
+    let k_held = same_encloses (behind a i) (p i i) (k i) (meets.p_over i i)
+    (held.denominator i (omega arith) (omega arith)) (sym (meets.k_last i (omega arith) few)) in
+    let v_held = same_encloses (at b i) (q i i) (v i) (meets.q_over i i) (held.numerator i (omega arith))
+    (sym (meets.v_last i few)) in
+    let next = subst (λ m. EnclosesOrder m d.lower d.upper (p m) (q m)) less
+    (one_below c e n i a b d.lower d.upper p q k v (omega arith) few meets held d.lower_is d.upper_is) in
     subst (λ l. EnclosesLattice i l k v) d.is
     (rung_encloses m (behind a i) (at b i) d.rest k v (sizes_of m d.lower d.upper d.rest d.rest_is)
     (all_enclosed c e n m d.lower d.upper d.rest p q k v (omega arith) meets next d.rest_is) k_held v_held)
@@ -246,7 +282,8 @@ enclosed_encloses c = record {
   high = ceil_above (c.num *ℤ pos (2 ^ 64)) (den_value c.den) (den_over c.den);
 }
 
-given_encloses : (cs : List Fraction) (first count j : ℕ) (x : Ratio) → j < count → SameValue x (value_of (coefficient cs (j + first))) → Encloses (at (enclosures cs first count) j) x
+given_encloses : (cs : List Fraction) (first count j : ℕ) (x : Ratio) → j < count →
+    SameValue x (value_of (coefficient cs (j + first))) → Encloses (at (enclosures cs first count) j) x
 given_encloses cs first count j x l same =
     let c = coefficient cs (j + first) in
     rw (listed_at count (λ j. enclosed (coefficient cs (j + first))) j l)
@@ -259,16 +296,20 @@ start_encloses b a p q k v meets =
     record {
       denominator = λ j low high.
           let here : j - 1 + 1 ≡ j = omega arith in
-          given_encloses a 1 n (j - 1) (p n j) (omega arith) (subst (λ i. SameValue (p n j) (value_of (coefficient a i))) (sym here) (meets.p_highest j low high));
+          given_encloses a 1 n (j - 1) (p n j) (omega arith)
+          (subst (λ i. SameValue (p n j) (value_of (coefficient a i))) (sym here)
+          (meets.p_highest j low high));
       numerator = λ j high.
           let here : j + 0 ≡ j = omega arith in
-          given_encloses b 0 (n + 1) j (q n j) (omega arith) (subst (λ i. SameValue (q n j) (value_of (coefficient b i))) (sym here) (meets.q_highest j high));
+          given_encloses b 0 (n + 1) j (q n j) (omega arith)
+          (subst (λ i. SameValue (q n j) (value_of (coefficient b i))) (sym here) (meets.q_highest j high));
     }
 
 pub step_down_encloses : (b a : List Fraction) (l : Lattice) → step_down b a ≡ Ok l → EnclosesExact b a l
 step_down_encloses b a l h p q k v meets =
     let n = greater_order b a in
-    all_enclosed b a n n (enclosures a 1 n) (enclosures b 0 (n + 1)) l p q k v (omega arith) meets (start_encloses b a p q k v meets) h
+    all_enclosed b a n n (enclosures a 1 n) (enclosures b 0 (n + 1)) l p q k v (omega arith) meets
+    (start_encloses b a p q k v meets) h
 
 -- order by order
 same_some : (x y : Enclosures) → ◌≡◌ {A = Option Enclosures} (Some x) (Some y) → x ≡ y
@@ -279,26 +320,32 @@ orders_enclose b a p q k v zero e meets few h =
     let n = greater_order b a in
     let all : n ≡ n - 0 = omega arith in
     subst (λ i. EnclosesOrder i e.a e.b (p i) (q i)) all
-    (subst (λ e. EnclosesOrder n e.a e.b (p n) (q n)) (same_some (record { a = enclosures a 1 n; b = enclosures b 0 (n + 1) }) e h) (start_encloses b a p q k v meets))
+    (subst (λ e. EnclosesOrder n e.a e.b (p n) (q n))
+    (same_some (record { a = enclosures a 1 n; b = enclosures b 0 (n + 1) }) e h)
+    (start_encloses b a p q k v meets))
 orders_enclose b a p q k v (suc m) e meets few h =
     let n = greater_order b a in
     let i = n - m in
     let less : i - 1 ≡ n - suc m = omega arith in
     option_and_then_some (below i) (orders_down b a m) e h
     (λ x is made.
-    option_and_then_some (λ lower. option_and_then (λ upper. Some (record { a = lower; b = upper })) (lower_numerator i x.a x.b)) (lower_denominator i x.a) e made
+    option_and_then_some (λ lower.
+    option_and_then (λ upper. Some (record { a = lower; b = upper })) (lower_numerator i x.a x.b))
+    (lower_denominator i x.a) e made
     (λ lower of_lower rest.
     option_and_then_some (λ upper. Some (record { a = lower; b = upper })) (lower_numerator i x.a x.b) e rest
     (λ upper of_upper last.
     let held = orders_enclose b a p q k v m x meets (omega arith) is in
     subst (λ i. EnclosesOrder i e.a e.b (p i) (q i)) less
-    (subst (λ e. EnclosesOrder (i - 1) e.a e.b (p (i - 1)) (q (i - 1))) (same_some (record { a = lower; b = upper }) e last)
+    (subst (λ e. EnclosesOrder (i - 1) e.a e.b (p (i - 1)) (q (i - 1)))
+    (same_some (record { a = lower; b = upper }) e last)
     (one_below b a n i x.a x.b lower upper p q k v (omega arith) (omega arith) meets held of_lower of_upper)))))
 
 pub step_down_sizes : (b a : List Fraction) (l : Lattice) → step_down b a ≡ Ok l → HasSizes (greater_order b a) l
 step_down_sizes b a l h = let n = greater_order b a in sizes_of n (enclosures a 1 n) (enclosures b 0 (n + 1)) l h
 
-pub step_down_fits : (b a : List Fraction) (l : Lattice) → greater_order b a ≤ REFLECTIONS → step_down b a ≡ Ok l → LatticeFits l
+pub step_down_fits : (b a : List Fraction) (l : Lattice) → greater_order b a ≤ REFLECTIONS →
+    step_down b a ≡ Ok l → LatticeFits l
 step_down_fits b a l few h =
     let sizes = step_down_sizes b a l h in
     record { taps = let e = sizes.reflections in let f = sizes.taps in omega arith; few = rw sizes.reflections few }

@@ -6,7 +6,8 @@ use Rattle.fx_nums.specs.Fraction.{Fraction}
 use Rattle.fx_eqs.specs.Values.{difference_of, product_of, value_of, whole}
 use Rattle.fx_nums.specs.Interval.{Interval}
 use Rattle.fx_lattice.specs.Lattice.{Lattice, at, reflection, tap}
-use Rattle.fx_lattice.specs.StepDown.{behind, coefficient, enclosures, greater_order, lower_denominator, lower_numerator}
+use Rattle.fx_lattice.specs.StepDown.{behind, coefficient, enclosures, greater_order, lower_denominator}
+use Rattle.fx_lattice.specs.StepDown.{lower_numerator}
 
 -- 1 - k^2
 abbrev pub one_less_square : Ratio → Ratio
@@ -26,7 +27,8 @@ pub record MeetsStepDown (b a : List Fraction) (n : ℕ) (p q : ℕ → ℕ → 
   pub k_last : (i : ℕ) → 1 ≤ i → i ≤ n → SameValue (k i) (p i i)
   pub v_last : (i : ℕ) → i ≤ n → SameValue (v i) (q i i)
   pub p_lower : (i j : ℕ) → 1 ≤ j → j < i → i ≤ n →
-      SameValue (product_of (p (i - 1) j) (one_less_square (k i))) (difference_of (p i j) (product_of (k i) (p i (i - j))))
+      SameValue (product_of (p (i - 1) j) (one_less_square (k i)))
+      (difference_of (p i j) (product_of (k i) (p i (i - j))))
   pub q_lower : (i j : ℕ) → j < i → i ≤ n →
       SameValue (q (i - 1) j) (difference_of (q i j) (product_of (v i) (p i (i - j))))
 

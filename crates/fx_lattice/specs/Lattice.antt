@@ -1,5 +1,6 @@
 -- Lattices of enclosures: reflection coefficients and taps.
-use Rattle.std.specs.Prelude.{◌≡◌, ℕ, suc, ◌+◌, ◌-◌, ◌/◌, ◌≤◌, ◌<ℤ◌, ◌^◌, ℤ, pos, negsuc, neg_ℤ, List, length, slice_index_or}
+use Rattle.std.specs.Prelude.{◌≡◌, ℕ, suc, ◌+◌, ◌-◌, ◌/◌, ◌≤◌, ◌<ℤ◌, ◌^◌, ℤ, pos, negsuc, neg_ℤ, List, length}
+use Rattle.std.specs.Prelude.{slice_index_or}
 use Rattle.fx_nums.specs.Fraction.{Fraction}
 use Rattle.fx_nums.specs.declared.fraction.Den.TheVariants.{Two}
 use Rattle.fx_nums.specs.Interval.{Interval, point}

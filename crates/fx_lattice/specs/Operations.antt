@@ -1,5 +1,6 @@
 -- Operations on intervals with ends of 88 bits, where what comes of them has such ends too.
-use Rattle.std.specs.Prelude.{◌^◌, nat_lt, int_lt, Bool, ◌&&◌, cond, pos, neg_ℤ, unsigned_abs, Option, Some, None, option_and_then}
+use Rattle.std.specs.Prelude.{◌^◌, nat_lt, int_lt, Bool, ◌&&◌, cond, pos, neg_ℤ, unsigned_abs, Option, Some}
+use Rattle.std.specs.Prelude.{None, option_and_then}
 use Rattle.fx_nums.specs.Arithmetic.{divided, has_zero, times, widened}
 use Rattle.fx_nums.specs.Interval.{Interval, opposite, plus, point}
 use Rattle.fx_nums.specs.declared.limits.TheConstants.{OPERAND_BITS, SCALE_BITS}

@@ -1,6 +1,7 @@
 -- Step-down over intervals: from numerator b and denominator a, whose first coefficient is 1, to a lattice
 -- with the same transfer function. Of order i, a has a_1 to a_i behind the leading 1, and b has b_0 to b_i.
-use Rattle.std.specs.Prelude.{ℕ, zero, suc, ◌+◌, ◌-◌, max, Bool, true, false, List, [], ◌∷◌, ◌++◌, length, slice_index_or, Option, Some, option_and_then, Result, Ok}
+use Rattle.std.specs.Prelude.{ℕ, zero, suc, ◌+◌, ◌-◌, max, Bool, true, false, List, [], ◌∷◌, ◌++◌, length}
+use Rattle.std.specs.Prelude.{slice_index_or, Option, Some, option_and_then, Result, Ok}
 use Rattle.fx_math.specs.Faults.{◌>>=◌, or_fault, unless}
 use Rattle.fx_nums.specs.Fraction.{Fraction, den_value, zero_fraction}
 use Rattle.fx_nums.specs.Interval.{Interval, enclosure}

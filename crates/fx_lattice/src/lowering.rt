@@ -5,7 +5,20 @@ ghost use Rattle.fx_math.specs.Answers.{Gives};
 ghost use Rattle.fx_lattice.specs.Exact.{EnclosesExact};
 ghost use Rattle.fx_lattice.specs.Lattice.{at};
 ghost use Rattle.fx_lattice.specs.Operations.{less_product, one_point};
-ghost use Rattle.fx_lattice.specs.StepDown.{behind, coefficient, down, enclosed, enclosures, greater_order, is_memory, lower_a, lower_b, lower_denominator, lower_numerator, step_down};
+ghost use Rattle.fx_lattice.specs.StepDown.{
+  behind,
+  coefficient,
+  down,
+  enclosed,
+  enclosures,
+  greater_order,
+  is_memory,
+  lower_a,
+  lower_b,
+  lower_denominator,
+  lower_numerator,
+  step_down,
+};
 
 use crate::operands::{Operand, Reflection, one};
 use crate::refusal::Step;

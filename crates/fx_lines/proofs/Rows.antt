@@ -6,5 +6,6 @@ use Rattle.fx_nums.specs.Fraction.{OverTen}
 use Rattle.fx_lines.specs.Filter.{terms_of}
 
 -- they have their coefficients over powers of ten where all terms have
-pub terms_over_ten : (row : ℕ) (terms : List Term) → All (λ t. OverTen t.coef) terms → All (λ t. OverTen t.coef) (terms_of row terms)
+pub terms_over_ten : (row : ℕ) (terms : List Term) → All (λ t. OverTen t.coef) terms →
+    All (λ t. OverTen t.coef) (terms_of row terms)
 terms_over_ten row terms fits = All-filter (λ t. t.row == row) (λ t. OverTen t.coef) terms fits

@@ -2,9 +2,12 @@
 use Rattle.std.specs.Prelude.{ℕ, List, [], ◌++◌, codes}
 use Rattle.std.specs.Fmt.{decimal, signed_decimal}
 use Rattle.fx_code.specs.declared.fault.LimitOf.{LimitOf}
-use Rattle.fx_code.specs.declared.fault.LimitOf.TheVariants.{Accumulator, Inputs, Rows, Outputs, InputWidth, Width, Shift, Left, Coefficient, Product, Terms, OutputRow}
+use Rattle.fx_code.specs.declared.fault.LimitOf.TheVariants.{Accumulator, Inputs, Rows, Outputs, InputWidth}
+use Rattle.fx_code.specs.declared.fault.LimitOf.TheVariants.{Width, Shift, Left, Coefficient, Product, Terms}
+use Rattle.fx_code.specs.declared.fault.LimitOf.TheVariants.{OutputRow}
 use Rattle.fx_text.specs.declared.fault.CodeFault.{CodeFault}
-use Rattle.fx_text.specs.declared.fault.CodeFault.TheVariants.{Token, Unexpected, Name, Order, Number, Rounding, Limit, Twice, NoMemory}
+use Rattle.fx_text.specs.declared.fault.CodeFault.TheVariants.{Token, Unexpected, Name, Order, Number, Rounding}
+use Rattle.fx_text.specs.declared.fault.CodeFault.TheVariants.{Limit, Twice, NoMemory}
 
 -- the name of a limit
 abbrev pub limit_name : LimitOf → List ℕ

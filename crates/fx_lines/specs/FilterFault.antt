@@ -5,7 +5,9 @@ use Rattle.fx_decimal.specs.declared.fault.DecimalFault.{DecimalFault}
 use Rattle.fx_decimal.specs.declared.fault.DecimalFault.TheVariants.{Empty, BadByte, TooManyDigits, TooFine, TooLarge}
 use Rattle.fx_keys.specs.Keys.{name_of}
 use Rattle.fx_keys.specs.declared.fault.FilterFault.{FilterFault}
-use Rattle.fx_keys.specs.declared.fault.FilterFault.TheVariants.{NotToml, Missing, WrongKind, Numeral, NotMonic, Shape, Limit, UnknownKey, UnknownWord, NoMemory}
+use Rattle.fx_keys.specs.declared.fault.FilterFault.TheVariants.{NotToml, Missing, WrongKind, Numeral, NotMonic}
+use Rattle.fx_keys.specs.declared.fault.FilterFault.TheVariants.{Shape, Limit, UnknownKey, UnknownWord}
+use Rattle.fx_keys.specs.declared.fault.FilterFault.TheVariants.{NoMemory}
 use Rattle.fx_lines.specs.UnknownKey.{shown_key}
 
 -- why a text is no numeral

@@ -3,7 +3,20 @@
 ghost use Rattle.std.specs.Prelude.{◌≡◌, ◌++◌, codes, All, IfOk, OnOk};
 ghost use Rattle.std.specs.List.{flat_map};
 ghost use Rattle.fx_nums.specs.Fraction.{OverTen};
-ghost use Rattle.fx_lines.specs.Filter.{filter_lines, head_lines, input_line, input_lines, output_line, output_lines, row_line, rows_before, source_text, sum_text, term_text, terms_of};
+ghost use Rattle.fx_lines.specs.Filter.{
+  filter_lines,
+  head_lines,
+  input_line,
+  input_lines,
+  output_line,
+  output_lines,
+  row_line,
+  rows_before,
+  source_text,
+  sum_text,
+  term_text,
+  terms_of,
+};
 
 use crate::pieces::{put_field, put_word};
 use fx_decimal::print_frac;

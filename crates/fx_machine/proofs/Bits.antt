@@ -1,5 +1,6 @@
 -- Numbers of so many bits, and residues.
-use Rattle.std.proofs.Common.{◌≡◌, ℕ, zero, suc, ◌+◌, ◌*◌, ◌-◌, ◌^◌, ◌<◌, ◌≤◌, ℤ, pos, negsuc, ◌+ℤ◌, ◌-ℤ◌, ◌≤ℤ◌, ◌<ℤ◌, ◌*ℤ◌, false, unsigned_abs, arith, lit<, ap, ◌∙◌}
+use Rattle.std.proofs.Common.{◌≡◌, ℕ, zero, suc, ◌+◌, ◌*◌, ◌-◌, ◌^◌, ◌<◌, ◌≤◌, ℤ, pos, negsuc, ◌+ℤ◌, ◌-ℤ◌, ◌≤ℤ◌}
+use Rattle.std.proofs.Common.{◌<ℤ◌, ◌*ℤ◌, false, unsigned_abs, arith, lit<, ap, ◌∙◌}
 use Rattle.std.specs.Int.{int_rem_euclid}
 use Rattle.std.proofs.Math.Nat.{pow-succ'}
 use Rattle.std.proofs.lemmas.Nat.{pow_pos}
@@ -12,7 +13,9 @@ use Rattle.fx_math.proofs.Residue.{wrap_fits, residue_congruence}
 use Rattle.std.proofs.Math.Nat.{pow-le-pow_right}
 use Rattle.fx_machine.specs.Prepared.{half_of, is_outside}
 
-pub wrap_at_half : (w : ℕ) (z : ℤ) → 1 ≤ w → int_rem_euclid (z +ℤ pos (2 ^ (w - 1))) (pos (2 ^ (w - 1)) +ℤ pos (2 ^ (w - 1))) -ℤ pos (2 ^ (w - 1)) ≡ wrap w z
+pub wrap_at_half : (w : ℕ) (z : ℤ) → 1 ≤ w →
+    int_rem_euclid (z +ℤ pos (2 ^ (w - 1))) (pos (2 ^ (w - 1)) +ℤ pos (2 ^ (w - 1))) -ℤ pos (2 ^ (w - 1))
+    ≡ wrap w z
 unfolding wrap
 wrap_at_half zero z h = absurd (omega arith)
 wrap_at_half (suc w) z h =
@@ -55,7 +58,8 @@ pub wrap_small : (w : ℕ) (z : ℤ) → 1 ≤ w → unsigned_abs (wrap w z) ≤
 wrap_small w z h = let f = wrap_is_bits w z h in omega (arith, ints, f.low, f.high)
 
 -- a number without its low bits is not much larger
-pub high_small : (bits : ℕ) (z : ℤ) → bits ≤ 64 → unsigned_abs z ≤ 2 ^ 126 + 2 ^ 63 → unsigned_abs (floor_div z (2 ^ bits) *ℤ pos (2 ^ bits)) < 2 ^ 127
+pub high_small : (bits : ℕ) (z : ℤ) → bits ≤ 64 → unsigned_abs z ≤ 2 ^ 126 + 2 ^ 63 →
+    unsigned_abs (floor_div z (2 ^ bits) *ℤ pos (2 ^ bits)) < 2 ^ 127
 high_small bits z h small =
     let some : 0 < 2 ^ bits = pow_pos bits in
     let power : 2 ^ bits ≤ 2 ^ 64 = pow-le-pow_right (lit< tt) h in
@@ -63,7 +67,9 @@ high_small bits z h small =
     let high = floor_above z (2 ^ bits) some in
     omega (arith, ints, small, power, low, high)
 
-pub wrap_is : (bits : ℕ) (z half high : ℤ) → 1 ≤ bits → half ≡ pos (2 ^ (bits - 1)) → high ≡ floor_div (z +ℤ half) (2 ^ bits) *ℤ pos (2 ^ bits) → z -ℤ high ≡ wrap bits z
+pub wrap_is : (bits : ℕ) (z half high : ℤ) → 1 ≤ bits → half ≡ pos (2 ^ (bits - 1)) →
+    high ≡ floor_div (z +ℤ half) (2 ^ bits) *ℤ pos (2 ^ bits) → z -ℤ high ≡ wrap bits z
 wrap_is bits z half high low h e =
-    let same : high ≡ floor_div (z +ℤ pos (2 ^ (bits - 1))) (2 ^ bits) *ℤ pos (2 ^ bits) = e ∙ ap (λ x. floor_div (z +ℤ x) (2 ^ bits) *ℤ pos (2 ^ bits)) h in
+    let same : high ≡ floor_div (z +ℤ pos (2 ^ (bits - 1))) (2 ^ bits) *ℤ pos (2 ^ bits) =
+    e ∙ ap (λ x. floor_div (z +ℤ x) (2 ^ bits) *ℤ pos (2 ^ bits)) h in
     omega (arith, ints, same, residue_congruence bits z low)

@@ -1,5 +1,6 @@
 -- What the marks of a moment say of the run.
-use Rattle.std.proofs.Common.{◌≡◌, ℕ, ◌^◌, ◌<◌, ◌≤◌, ℤ, Bool, true, false, ◌||◌, cond, List, [], ◌∷◌, length, All, subst, sym, ap, ◌∙◌, refl, arith}
+use Rattle.std.proofs.Common.{◌≡◌, ℕ, ◌^◌, ◌<◌, ◌≤◌, ℤ, Bool, true, false, ◌||◌, cond, List, [], ◌∷◌, length}
+use Rattle.std.proofs.Common.{All, subst, sym, ap, ◌∙◌, refl, arith}
 use Rattle.std.specs.List.{list_any}
 use Rattle.std.proofs.lemmas.Bool.{or_parts}
 use Rattle.std.proofs.lemmas.List.Elements.{All-nil, All-cons, All-tail}
@@ -22,10 +23,16 @@ unset true e = absurd (omega (arith, e))
 unset false e = refl
 
 -- a bit that is 1 where a test says so is 0 where it does not
-clear_where : (test : ℕ → Bool) (claim : ℕ → Type 0) (n marks : ℕ) → HasBits test n marks → ((i : ℕ) → i < n → test i ≡ false → claim i) → ((i : ℕ) → i < n → claim i → test i ≡ false) → IsClearWhere claim n marks
+clear_where : (test : ℕ → Bool) (claim : ℕ → Type 0) (n marks : ℕ) → HasBits test n marks →
+    ((i : ℕ) → i < n → test i ≡ false → claim i) → ((i : ℕ) → i < n → claim i → test i ≡ false) →
+    IsClearWhere claim n marks
 clear_where test claim n marks has says back =
     record {
-      bits = λ i h. (λ e. says i h (unset (test i) (sym (has.bits i h) ∙ e)), λ holds. has.bits i h ∙ ap as_bit (back i h holds));
+      bits = λ i h. (
+        λ e. says i h (unset (test i) (sym (has.bits i h) ∙ e)),
+        λ holds.
+            has.bits i h ∙ ap as_bit (back i h holds),
+      );
       rest = has.rest;
     }
 
@@ -44,7 +51,9 @@ all_inside bits (z ∷ zs) h =
     let rest = all_inside bits zs (All-tail (FitsBits bits) z zs h) in
     rw (here, rest) refl
 
-pub partial_marks : (p : Code) (u : ℕ → ℕ → ℤ) (k : ℕ) (begun : List ℤ) (marks : ℕ) → CodeFits p → Starts p u k begun → HasBits (partial_at p begun) (length p.rows) marks → IsClearWhere (StaysInside p u k) (length p.rows) marks
+pub partial_marks : (p : Code) (u : ℕ → ℕ → ℤ) (k : ℕ) (begun : List ℤ) (marks : ℕ) → CodeFits p →
+    Starts p u k begun → HasBits (partial_at p begun) (length p.rows) marks →
+    IsClearWhere (StaysInside p u k) (length p.rows) marks
 partial_marks p u k begun marks f s has =
     clear_where (partial_at p begun) (StaysInside p u k) (length p.rows) marks has
     (λ i h e. none_outside p.accumulator (sums_at p u k i) (sym (same i h) ∙ e))
@@ -57,33 +66,45 @@ partial_marks p u k begun marks f s has =
 
 -- what the marks of a row are of its sum
 lost_of : (accumulator width shift : ℕ) → ℤ → Bool
-lost_of accumulator width shift sum = is_outside accumulator sum || is_outside width (floor_div (wrap accumulator sum) (2 ^ shift))
+lost_of accumulator width shift sum = is_outside accumulator sum
+    || is_outside width (floor_div (wrap accumulator sum) (2 ^ shift))
 
-lost_is : (p : Code) (u : ℕ → ℕ → ℤ) (k : ℕ) (begun : List ℤ) (i : ℕ) → CodeFits p → Starts p u k begun → i < length p.rows → lost_at p begun i ≡ lost_of p.accumulator (row_at p i).width (row_at p i).shift (sum_at p u k i)
+lost_is : (p : Code) (u : ℕ → ℕ → ℤ) (k : ℕ) (begun : List ℤ) (i : ℕ) → CodeFits p → Starts p u k begun →
+    i < length p.rows → lost_at p begun i
+    ≡ lost_of p.accumulator (row_at p i).width (row_at p i).shift (sum_at p u k i)
 unfolding lost_of
-lost_is p u k begun i f s h = ap (lost_of p.accumulator (row_at p i).width (row_at p i).shift) (sums_are p u k begun i f s h)
+lost_is p u k begun i f s h =
+    ap (lost_of p.accumulator (row_at p i).width (row_at p i).shift) (sums_are p u k begun i f s h)
 
-exact_from : (p : Code) (u : ℕ → ℕ → ℤ) (k i : ℕ) → 1 ≤ p.accumulator → lost_of p.accumulator (row_at p i).width (row_at p i).shift (sum_at p u k i) ≡ false → IsExact p u k i
+exact_from : (p : Code) (u : ℕ → ℕ → ℤ) (k i : ℕ) → 1 ≤ p.accumulator →
+    lost_of p.accumulator (row_at p i).width (row_at p i).shift (sum_at p u k i) ≡ false → IsExact p u k i
 unfolding lost_of
 exact_from p u k i h e =
     let sum = sum_at p u k i in
-    let parts = or_parts (is_outside p.accumulator sum) (is_outside (row_at p i).width (floor_div (wrap p.accumulator sum) (2 ^ (row_at p i).shift))) e in
+    let parts = or_parts (is_outside p.accumulator sum)
+    (is_outside (row_at p i).width (floor_div (wrap p.accumulator sum) (2 ^ (row_at p i).shift))) e in
     let same : wrap p.accumulator sum ≡ sum = wrap_inside p.accumulator sum h parts.0 in
     record {
       sum = same;
-      store = subst (λ (z : ℤ). FitsBits (row_at p i).width (floor_div z (2 ^ (row_at p i).shift))) same (fits_from (row_at p i).width _ parts.1);
+      store = subst (λ (z : ℤ). FitsBits (row_at p i).width (floor_div z (2 ^ (row_at p i).shift))) same
+          (fits_from (row_at p i).width _ parts.1);
     }
 
-not_lost : (p : Code) (u : ℕ → ℕ → ℤ) (k i : ℕ) → 1 ≤ p.accumulator → IsExact p u k i → lost_of p.accumulator (row_at p i).width (row_at p i).shift (sum_at p u k i) ≡ false
+not_lost : (p : Code) (u : ℕ → ℕ → ℤ) (k i : ℕ) → 1 ≤ p.accumulator → IsExact p u k i →
+    lost_of p.accumulator (row_at p i).width (row_at p i).shift (sum_at p u k i) ≡ false
 unfolding lost_of
 not_lost p u k i h exact =
     let sum = sum_at p u k i in
-    let fits : FitsBits p.accumulator sum = subst (FitsBits p.accumulator) exact.sum (wrap_is_bits p.accumulator sum h) in
+    let fits : FitsBits p.accumulator sum =
+    subst (FitsBits p.accumulator) exact.sum (wrap_is_bits p.accumulator sum h) in
     let first : is_outside p.accumulator sum ≡ false = inside_from p.accumulator sum fits in
-    let second : is_outside (row_at p i).width (floor_div (wrap p.accumulator sum) (2 ^ (row_at p i).shift)) ≡ false = rw exact.sum (inside_from (row_at p i).width _ exact.store) in
+    let second : is_outside (row_at p i).width (floor_div (wrap p.accumulator sum) (2 ^ (row_at p i).shift))
+    ≡ false = rw exact.sum (inside_from (row_at p i).width _ exact.store) in
     rw (first, second) refl
 
-pub lost_marks : (p : Code) (u : ℕ → ℕ → ℤ) (k : ℕ) (begun : List ℤ) (marks : ℕ) → CodeFits p → Starts p u k begun → HasBits (lost_at p begun) (length p.rows) marks → IsClearWhere (IsExact p u k) (length p.rows) marks
+pub lost_marks : (p : Code) (u : ℕ → ℕ → ℤ) (k : ℕ) (begun : List ℤ) (marks : ℕ) → CodeFits p →
+    Starts p u k begun → HasBits (lost_at p begun) (length p.rows) marks →
+    IsClearWhere (IsExact p u k) (length p.rows) marks
 lost_marks p u k begun marks f s has =
     let some : 1 ≤ p.accumulator = omega (arith, f.accumulator_low) in
     clear_where (lost_at p begun) (IsExact p u k) (length p.rows) marks has

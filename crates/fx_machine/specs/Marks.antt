@@ -10,12 +10,14 @@ use Rattle.fx_code.specs.declared.term.CodeTerm.{CodeTerm}
 -- a sum, and the sums after it as the terms are added one by one
 abbrev pub sums_from : ℤ → (ℕ → ℤ) → (ℕ → ℤ) → (ℕ → ℤ) → List CodeTerm → List ℤ
 sums_from sum now old input [] = sum ∷ []
-sums_from sum now old input (t ∷ ts) = sum ∷ sums_from (sum +ℤ weight t *ℤ word_read now old input t.from) now old input ts
+sums_from sum now old input (t ∷ ts) =
+    sum ∷ sums_from (sum +ℤ weight t *ℤ word_read now old input t.from) now old input ts
 
 -- the whole-number sums of row i at moment k: after its constant, and after each of its terms in their order
 abbrev pub sums_at : Code → (ℕ → ℕ → ℤ) → ℕ → ℕ → List ℤ
 sums_at p u k i =
-    sums_from (pos (constant_of (bare (row_at p i)))) (so_far (length p.rows) (word_step p u) k i) (last (length p.rows) (word_step p u) k) (u k) (row_at p i).terms
+    sums_from (pos (constant_of (bare (row_at p i)))) (so_far (length p.rows) (word_step p u) k i)
+    (last (length p.rows) (word_step p u) k) (u k) (row_at p i).terms
 
 -- none of these sums lies outside the accumulator
 abbrev pub StaysInside : Code → (ℕ → ℕ → ℤ) → ℕ → ℕ → Type 0

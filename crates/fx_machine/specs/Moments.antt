@@ -13,4 +13,5 @@ pub record State : Type 0 where
 -- a machine that has run a program on a list of moments
 pub record StandsAfter (m : State) (p : Code) (list : List (List ℤ)) : Type 0 where
   pub program : m.program ≡ p
-  pub words : (i : ℕ) → i < length p.rows → slice_index_or m.words i (pos 0) ≡ last (length p.rows) (word_step p (word_at list)) (length list) i
+  pub words : (i : ℕ) → i < length p.rows → slice_index_or m.words i (pos 0)
+      ≡ last (length p.rows) (word_step p (word_at list)) (length list) i

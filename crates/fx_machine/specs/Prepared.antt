@@ -1,7 +1,9 @@
 -- Rows as machines keep them, and what they give.
 use Rattle.fx_machine.specs.declared.places.TheConstants.{FIRST_INPUT, FIRST_OLD, WORD_COUNT}
 use Rattle.fx_code.specs.declared.limits.TheConstants.{LONGEST_SHIFT}
-use Rattle.std.specs.Prelude.{◌≡◌, ℕ, ◌+◌, ◌-◌, ◌*◌, ◌^◌, ◌<◌, ◌≤◌, nat_lt, nat_le, cond, Bool, ◌||◌, ℤ, pos, negsuc, ◌+ℤ◌, ◌*ℤ◌, unsigned_abs, List, [], ◌∷◌, length, map, All, slice_index, slice_index_or}
+use Rattle.std.specs.Prelude.{◌≡◌, ℕ, ◌+◌, ◌-◌, ◌*◌, ◌^◌, ◌<◌, ◌≤◌, nat_lt, nat_le, cond, Bool, ◌||◌, ℤ, pos}
+use Rattle.std.specs.Prelude.{negsuc, ◌+ℤ◌, ◌*ℤ◌, unsigned_abs, List, [], ◌∷◌, length, map, All, slice_index}
+use Rattle.std.specs.Prelude.{slice_index_or}
 use Rattle.std.specs.List.{list_any}
 use Rattle.fx_math.specs.Division.{floor_div}
 use Rattle.fx_math.specs.Residue.{wrap}
@@ -63,7 +65,15 @@ pub record Plan : Type 0 where
 -- of a prepared row
 abbrev pub plan_of : PreparedRow → Plan
 plan_of r =
-    record { accumulator = r.accumulator; width = r.width; shift = r.shift; reach = r.reach; constant = r.constant; terms = r.terms.items }
+    record {
+      accumulator = r.accumulator;
+      width = r.width;
+      shift = r.shift;
+      reach = r.reach;
+      constant =
+          r.constant;
+      terms = r.terms.items;
+    }
 
 -- of a row of a program
 abbrev pub plan_for : Code → Row → Plan
@@ -116,7 +126,8 @@ word_of plan words = wrap plan.width (floor_of plan words)
 
 -- a sum on the way is not one of the accumulator's bits
 abbrev pub is_partial : Plan → List ℤ → Bool
-is_partial plan words = list_any (is_outside plan.accumulator) (plan.constant ∷ later_sums plan.constant words plan.terms)
+is_partial plan words = list_any (is_outside plan.accumulator)
+    (plan.constant ∷ later_sums plan.constant words plan.terms)
 
 -- the accumulator is not read as the sum, or the floored value is not one of the word's bits
 abbrev pub is_lost : Plan → List ℤ → Bool

@@ -1,7 +1,8 @@
 -- A machine's fields, as the machine that contracts see, and a moment row by row.
 use Rattle.fx_machine.specs.declared.places.TheConstants.{FIRST_INPUT, FIRST_OLD, WORD_COUNT}
 use Rattle.fx_code.specs.declared.limits.TheConstants.{CODE_ROWS}
-use Rattle.std.specs.Prelude.{◌≡◌, ℕ, zero, suc, ◌+◌, ◌<◌, ◌≤◌, ℤ, pos, unsigned_abs, Bool, cond, List, length, map, take, slice_index, slice_set}
+use Rattle.std.specs.Prelude.{◌≡◌, ℕ, zero, suc, ◌+◌, ◌<◌, ◌≤◌, ℤ, pos, unsigned_abs, Bool, cond, List, length}
+use Rattle.std.specs.Prelude.{map, take, slice_index, slice_set}
 use Rattle.std.specs.Int.{bit_at}
 use Rattle.fx_code.specs.Code.{Code, row_at}
 use Rattle.fx_code.specs.Fits.{CodeFits}
@@ -24,7 +25,8 @@ pub record WordsFit (p : Code) (words : List ℤ) : Type 0 where
   pub now : (i : ℕ) → i < length p.rows → unsigned_abs (word_in words i) ≤ half_of (row_at p i).width
   pub old : (i : ℕ) → i < length p.rows → unsigned_abs (word_in words (FIRST_OLD + i)) ≤ half_of (row_at p i).width
   pub missing : (i : ℕ) → length p.rows ≤ i → i < CODE_ROWS → word_in words (FIRST_OLD + i) ≡ pos 0
-  pub input : (j : ℕ) → j < length p.inputs → unsigned_abs (word_in words (FIRST_INPUT + j)) ≤ half_of (slice_index p.inputs j)
+  pub input : (j : ℕ) → j < length p.inputs →
+      unsigned_abs (word_in words (FIRST_INPUT + j)) ≤ half_of (slice_index p.inputs j)
 
 -- the rows of a program, prepared
 abbrev pub ArePrepared : Code → List PreparedRow → Type 0

@@ -54,10 +54,16 @@ impl<'p> Machine<'p> {
         requires input { IsMoment self.old.program input.now }
         requires output { length output.old ≡ length self.old.program.outputs }
         ensures program { self.new.program ≡ self.old.program }
-        ensures stands { (p : Code) (list : List (List ℤ)) → StandsAfter self.old p list → StandsAfter self.new p (list ++ input.now ∷ []) }
-        ensures output { (p : Code) (list : List (List ℤ)) → StandsAfter self.old p list → output.new ≡ outputs_at p (word_at (list ++ input.now ∷ [])) (length list) }
-        ensures lost { (p : Code) (list : List (List ℤ)) → StandsAfter self.old p list → IsClearWhere (IsExact p (word_at (list ++ input.now ∷ [])) (length list)) (length p.rows) result.lost }
-        ensures partial { (p : Code) (list : List (List ℤ)) → StandsAfter self.old p list → IsClearWhere (StaysInside p (word_at (list ++ input.now ∷ [])) (length list)) (length p.rows) result.partial }
+        ensures stands { (p : Code) (list : List (List ℤ)) → StandsAfter self.old p list →
+            StandsAfter self.new p (list ++ input.now ∷ []) }
+        ensures output { (p : Code) (list : List (List ℤ)) → StandsAfter self.old p list →
+            output.new ≡ outputs_at p (word_at (list ++ input.now ∷ [])) (length list) }
+        ensures lost { (p : Code) (list : List (List ℤ)) → StandsAfter self.old p list →
+            IsClearWhere (IsExact p (word_at (list ++ input.now ∷ [])) (length list)) (length p.rows)
+            result.lost }
+        ensures partial { (p : Code) (list : List (List ℤ)) → StandsAfter self.old p list →
+            IsClearWhere (StaysInside p (word_at (list ++ input.now ∷ [])) (length list)) (length p.rows)
+            result.partial }
     {
         let program = self.program;
         begin(&mut self.words, program.rows(), input);

@@ -1,9 +1,42 @@
-ghost use Rattle.std.specs.Prelude.{◌≡◌, ◌+◌, ◌-◌, ◌*◌, ◌^◌, ◌<◌, ◌≤◌, ◌||◌, ◌∷◌, pos, neg_ℤ, ◌+ℤ◌, ◌-ℤ◌, ◌*ℤ◌, ◌≤ℤ◌, ◌<ℤ◌, length, All, unsigned_abs};
+ghost use Rattle.std.specs.Prelude.{
+  ◌≡◌,
+  ◌+◌,
+  ◌-◌,
+  ◌*◌,
+  ◌^◌,
+  ◌<◌,
+  ◌≤◌,
+  ◌||◌,
+  ◌∷◌,
+  pos,
+  neg_ℤ,
+  ◌+ℤ◌,
+  ◌-ℤ◌,
+  ◌*ℤ◌,
+  ◌≤ℤ◌,
+  ◌<ℤ◌,
+  length,
+  All,
+  unsigned_abs,
+};
 ghost use Rattle.std.specs.Int.{int_rem_euclid};
 ghost use Rattle.std.specs.List.{list_any};
 ghost use Rattle.fx_math.specs.Division.{floor_div};
 ghost use Rattle.fx_math.specs.Residue.{wrap};
-ghost use Rattle.fx_machine.specs.Prepared.{is_outside, word_in, scaled_sum, later_sums, magnitudes, plan_of, sum_of, read_of, word_of, is_partial, is_lost, CanRun};
+ghost use Rattle.fx_machine.specs.Prepared.{
+  is_outside,
+  word_in,
+  scaled_sum,
+  later_sums,
+  magnitudes,
+  plan_of,
+  sum_of,
+  read_of,
+  word_of,
+  is_partial,
+  is_lost,
+  CanRun,
+};
 
 use crate::prepared::{PreparedRow, Reach, ScaledTerm};
 use fx_code::LONGEST_SHIFT;

@@ -18,7 +18,8 @@ zero_interval = point (pos 0)
 
 -- the entry of row i and column j, zero outside
 unfoldable pub interval_at : IntervalMatrix → ℕ → ℕ → Interval
-interval_at m i j = cond (nat_lt i m.rows && nat_lt j m.columns) (slice_index_or m.entries (i * m.columns + j) zero_interval) zero_interval
+interval_at m i j = cond (nat_lt i m.rows && nat_lt j m.columns)
+    (slice_index_or m.entries (i * m.columns + j) zero_interval) zero_interval
 
 -- the entries of a matrix of zeros
 abbrev pub no_intervals : ℕ → ℕ → Interval
@@ -56,7 +57,8 @@ row_by_column n row column = record {
 -- whole over q
 abbrev pub EnclosesSums : ℕ → (ℕ → Interval) → (ℕ → Fraction) → Interval → Type 0
 EnclosesSums n row column v = (x : ℕ → ℤ) (den q : ℕ) →
-    ((k : ℕ) → k < n → Encloses (row k) (record { num = x k; den = den })) → ((k : ℕ) → k < n → IsWholeOver q (column k)) →
+    ((k : ℕ) → k < n → Encloses (row k) (record { num = x k; den = den })) →
+    ((k : ℕ) → k < n → IsWholeOver q (column k)) →
     Encloses v (record { num = total n (λ k. x k *ℤ over q (column k)); den = den * q })
 
 -- v is the product of a row with a column, each sum of the numbers within it
@@ -66,4 +68,5 @@ pub record IsRowByColumn (n : ℕ) (row : ℕ → Interval) (column : ℕ → Fr
 
 -- the first rows and columns of a product of matrices, n being the columns of the first and the rows of the other
 abbrev pub IsProductBelow : ℕ → ℕ → ℕ → (ℕ → ℕ → Interval) → (ℕ → ℕ → Fraction) → (ℕ → ℕ → Interval) → Type 0
-IsProductBelow rows columns n a b out = (i j : ℕ) → i < rows → j < columns → IsRowByColumn n (a i) (λ k. b k j) (out i j)
+IsProductBelow rows columns n a b out = (i j : ℕ) → i < rows → j < columns →
+    IsRowByColumn n (a i) (λ k. b k j) (out i j)

@@ -10,4 +10,5 @@ pub record Matrix : Type 0 where
 
 -- the entry of row i and column j, zero outside
 unfoldable pub entry_at : Matrix → ℕ → ℕ → Fraction
-entry_at m i j = cond (nat_lt i m.rows && nat_lt j m.columns) (slice_index_or m.entries (i * m.columns + j) zero_fraction) zero_fraction
+entry_at m i j = cond (nat_lt i m.rows && nat_lt j m.columns)
+    (slice_index_or m.entries (i * m.columns + j) zero_fraction) zero_fraction

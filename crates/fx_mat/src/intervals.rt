@@ -1,6 +1,16 @@
 ghost use Rattle.std.specs.Prelude.{◌≡◌, ◌↔◌, ℕ, ◌^◌, ◌<◌, ◌≤◌, IfOk, IsTrue, unsigned_abs};
 ghost use Rattle.fx_nums.specs.Interval.{IntervalFits, point};
-ghost use Rattle.fx_mat.specs.Intervals.{EntriesFit, IsProductBelow, IsRowByColumn, NoneOutside, RowFits, interval_at, no_intervals, put_interval, with_multiples};
+ghost use Rattle.fx_mat.specs.Intervals.{
+  EntriesFit,
+  IsProductBelow,
+  IsRowByColumn,
+  NoneOutside,
+  RowFits,
+  interval_at,
+  no_intervals,
+  put_interval,
+  with_multiples,
+};
 ghost use Rattle.fx_mat.specs.Matrix.{entry_at};
 
 use crate::fractions::FracMat;
@@ -88,8 +98,8 @@ impl<const R: usize, const C: usize> IvMat<R, C> {
         true
     }
 
-    /// Adds to each entry of row `i` the interval from `floor_mul(p, c)` to `ceil_mul(p, c)`, c being the entry of the same
-    /// column in row `q` of the other matrix.
+    /// Adds to each entry of row `i` the interval from `floor_mul(p, c)` to `ceil_mul(p, c)`, c being the entry of the
+    /// same column in row `q` of the other matrix.
     pub fn add_multiple<const Q: usize>(&mut self, i: usize, p: i128, m: &FracMat<Q, C>, q: usize)
         requires row { i < R }
         requires other_row { q < Q }
@@ -124,7 +134,8 @@ impl<const R: usize, const C: usize> IvMat<R, C> {
         requires row { i < R }
         requires few { C ≤ PRODUCT_TERMS }
         requires small { EntriesFit OPERAND_BITS R C (interval_at self.now) }
-        ensures done { (d : ℕ) → d < D → IsRowByColumn C (interval_at self.now i) (λ k. entry_at m.now k d) (interval_at out.new i d) }
+        ensures done { (d : ℕ) → d < D →
+            IsRowByColumn C (interval_at self.now i) (λ k. entry_at m.now k d) (interval_at out.new i d) }
         ensures left { (p d : ℕ) → (p ≡ i → ⊥) → interval_at out.new p d ≡ interval_at out.old p d }
     {
         for d in 0..D {
@@ -133,8 +144,8 @@ impl<const R: usize, const C: usize> IvMat<R, C> {
         }
     }
 
-    /// Sets each entry of the last matrix to the product of a row of this one with a column of the other: the sum of the
-    /// entries, scaled and rounded outward. Each of these fits 88 bits, and they are at most 64.
+    /// Sets each entry of the last matrix to the product of a row of this one with a column of the other: the sum of
+    /// the entries, scaled and rounded outward. Each of these fits 88 bits, and they are at most 64.
     pub fn mul_into<const D: usize>(&self, m: &FracMat<C, D>, out: &mut IvMat<R, D>)
         requires few { C ≤ PRODUCT_TERMS }
         requires small { EntriesFit OPERAND_BITS R C (interval_at self.now) }

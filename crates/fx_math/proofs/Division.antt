@@ -1,5 +1,6 @@
 -- The floor and the ceiling of z / n, and products with natural numbers.
-use Rattle.std.proofs.Common.{◌≡◌, ℕ, zero, suc, ◌+◌, ◌*◌, ◌/◌, ◌%◌, ◌<◌, ◌≤◌, ℤ, pos, negsuc, neg_ℤ, ◌+ℤ◌, ◌*ℤ◌, ◌≤ℤ◌, ◌<ℤ◌, unsigned_abs, max, arith}
+use Rattle.std.proofs.Common.{◌≡◌, ℕ, zero, suc, ◌+◌, ◌*◌, ◌/◌, ◌%◌, ◌<◌, ◌≤◌, ℤ, pos, negsuc, neg_ℤ, ◌+ℤ◌}
+use Rattle.std.proofs.Common.{◌*ℤ◌, ◌≤ℤ◌, ◌<ℤ◌, unsigned_abs, max, arith}
 use Rattle.std.proofs.Math.Nat.{mul-le-mul_right}
 use Rattle.std.proofs.lemmas.Nat.{div_below, div-add-mod', mod_below}
 use Rattle.std.proofs.lemmas.Int.{ints, unsigned_abs-mul}
@@ -41,7 +42,8 @@ floor_bound (negsuc a) n m h k = let below : a < m * n = omega arith in omega (a
 -- ---- products with natural numbers
 
 pub mul_le_nat : (a b : ℤ) (k : ℕ) → a ≤ℤ b → (a *ℤ pos k) ≤ℤ (b *ℤ pos k)
-mul_le_nat a b k h = let e : up a + down b ≤ up b + down a = omega (arith, ints) in omega (arith, ints, mul-le-mul_right k e)
+mul_le_nat a b k h = let e : up a + down b ≤ up b + down a =
+    omega (arith, ints) in omega (arith, ints, mul-le-mul_right k e)
 
 pub mul_abs_le : (e : ℤ) (t : ℕ) → (e *ℤ pos t) ≤ℤ pos (unsigned_abs e * t)
 mul_abs_le (pos n) t = omega (arith, ints)
@@ -58,7 +60,8 @@ pub cancel_lt : (a b k : ℕ) → a * k < b * k → a < b
 cancel_lt a b k e = grind arith
 
 -- what lies between two multiples has a magnitude of at most the greater one's
-pub between : (x lo hi : ℤ) (s t : ℕ) → (lo *ℤ pos t) ≤ℤ (x *ℤ pos s) → (x *ℤ pos s) ≤ℤ (hi *ℤ pos t) → unsigned_abs x * s ≤ max (unsigned_abs lo) (unsigned_abs hi) * t
+pub between : (x lo hi : ℤ) (s t : ℕ) → (lo *ℤ pos t) ≤ℤ (x *ℤ pos s) → (x *ℤ pos s) ≤ℤ (hi *ℤ pos t) →
+    unsigned_abs x * s ≤ max (unsigned_abs lo) (unsigned_abs hi) * t
 between x lo hi s t below above =
     let m = max (unsigned_abs lo) (unsigned_abs hi) in
     let e : unsigned_abs lo * t ≤ m * t = mul-le-mul_right t (omega arith) in

@@ -10,17 +10,21 @@ pub record IsTold {F : Type 0} (told : F → Option F) (first : Option F) : Type
 pub none_told : {F : Type 0} (told : F → Option F) → IsTold told None
 none_told told = record { says = λ fault e. cc }
 
-pub if_told : {F : Type 0} (told : F → Option F) (test : Bool) (fault : F) (rest : Option F) → Some fault ≡ told fault → IsTold told rest → IsTold told (fault_if test fault rest)
-if_told told true fault rest t r = record { says = λ other same. let e : fault ≡ other = cc in subst (λ x. Some fault ≡ told x) e t }
+pub if_told : {F : Type 0} (told : F → Option F) (test : Bool) (fault : F) (rest : Option F) →
+    Some fault ≡ told fault → IsTold told rest → IsTold told (fault_if test fault rest)
+if_told told true fault rest t r =
+    record { says = λ other same. let e : fault ≡ other = cc in subst (λ x. Some fault ≡ told x) e t }
 if_told told false fault rest t r = r
 
-pub or_told : {F : Type 0} (told : F → Option F) (first rest : Option F) → IsTold told first → IsTold told rest → IsTold told (option_or first rest)
+pub or_told : {F : Type 0} (told : F → Option F) (first rest : Option F) → IsTold told first →
+    IsTold told rest → IsTold told (option_or first rest)
 or_told told None rest f r = r
 or_told told (Some fault) rest f r = f
 
 -- ---- no fault: each test lets pass
 
-pub if_none : {F : Type 0} (test : Bool) (fault : F) (rest : Option F) → fault_if test fault rest ≡ None → (test ≡ false) × (rest ≡ None)
+pub if_none : {F : Type 0} (test : Bool) (fault : F) (rest : Option F) → fault_if test fault rest ≡ None →
+    (test ≡ false) × (rest ≡ None)
 if_none true fault rest e = cc
 if_none false fault rest e = (refl, e)
 
@@ -28,7 +32,8 @@ pub or_none : {F : Type 0} (first rest : Option F) → option_or first rest ≡ 
 or_none None rest e = (refl, e)
 or_none (Some fault) rest e = cc
 
-pub none_if : {F : Type 0} (test : Bool) (fault : F) (rest : Option F) → test ≡ false → rest ≡ None → fault_if test fault rest ≡ None
+pub none_if : {F : Type 0} (test : Bool) (fault : F) (rest : Option F) → test ≡ false → rest ≡ None →
+    fault_if test fault rest ≡ None
 none_if true fault rest e r = cc
 none_if false fault rest e r = r
 

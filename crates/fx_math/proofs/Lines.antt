@@ -1,5 +1,6 @@
 -- Inequalities between products of whole numbers, and the lesser and the greater of two.
-use Rattle.std.proofs.Common.{◌≡◌, ℕ, suc, ◌+◌, ◌*◌, ◌<◌, ◌≤◌, sym, ◌∙◌, arith, ap, ℤ, pos, negsuc, ◌*ℤ◌, ◌≤ℤ◌, unsigned_abs}
+use Rattle.std.proofs.Common.{◌≡◌, ℕ, suc, ◌+◌, ◌*◌, ◌<◌, ◌≤◌, sym, ◌∙◌, arith, ap, ℤ, pos, negsuc, ◌*ℤ◌, ◌≤ℤ◌}
+use Rattle.std.proofs.Common.{unsigned_abs}
 use Rattle.std.specs.Int.{int_min, int_max}
 use Rattle.std.proofs.Math.Nat.{mul-le-mul_right}
 use Rattle.std.proofs.lemmas.Int.{ints, clamps}
@@ -31,25 +32,29 @@ line_high l x h (pos n) t a b p q = omega (arith, ints, mul-le-mul_right n (le_o
 line_high l x h (negsuc n) t a b p q = omega (arith, ints, mul-le-mul_right (suc n) (le_out l x a))
 
 -- the same of two factors that lie between ends
-pub corners_low : (l x h m y k t : ℤ) → l ≤ℤ x → x ≤ℤ h → m ≤ℤ y → y ≤ℤ k → t ≤ℤ (l *ℤ m) → t ≤ℤ (l *ℤ k) → t ≤ℤ (h *ℤ m) → t ≤ℤ (h *ℤ k) → t ≤ℤ (x *ℤ y)
+pub corners_low : (l x h m y k t : ℤ) → l ≤ℤ x → x ≤ℤ h → m ≤ℤ y → y ≤ℤ k → t ≤ℤ (l *ℤ m) → t ≤ℤ (l *ℤ k) →
+    t ≤ℤ (h *ℤ m) → t ≤ℤ (h *ℤ k) → t ≤ℤ (x *ℤ y)
 corners_low l x h m y k t a b c d p q r s =
     line_low l x h y t a b
     (rw (mul_comm l y) (line_low m y k l t c d (rw (mul_comm m l) p) (rw (mul_comm k l) q)))
     (rw (mul_comm h y) (line_low m y k h t c d (rw (mul_comm m h) r) (rw (mul_comm k h) s)))
 
-pub corners_high : (l x h m y k t : ℤ) → l ≤ℤ x → x ≤ℤ h → m ≤ℤ y → y ≤ℤ k → (l *ℤ m) ≤ℤ t → (l *ℤ k) ≤ℤ t → (h *ℤ m) ≤ℤ t → (h *ℤ k) ≤ℤ t → (x *ℤ y) ≤ℤ t
+pub corners_high : (l x h m y k t : ℤ) → l ≤ℤ x → x ≤ℤ h → m ≤ℤ y → y ≤ℤ k → (l *ℤ m) ≤ℤ t → (l *ℤ k) ≤ℤ t →
+    (h *ℤ m) ≤ℤ t → (h *ℤ k) ≤ℤ t → (x *ℤ y) ≤ℤ t
 corners_high l x h m y k t a b c d p q r s =
     line_high l x h y t a b
     (rw (mul_comm l y) (line_high m y k l t c d (rw (mul_comm m l) p) (rw (mul_comm k l) q)))
     (rw (mul_comm h y) (line_high m y k h t c d (rw (mul_comm m h) r) (rw (mul_comm k h) s)))
 
 -- a rounded product, at a number that is b times as large
-pub rounded_low : (m f lo num : ℤ) (b d : ℕ) → m ≤ℤ f → (f *ℤ pos d) ≤ℤ (lo *ℤ num) → (m *ℤ pos (b * d)) ≤ℤ (lo *ℤ pos b *ℤ num)
+pub rounded_low : (m f lo num : ℤ) (b d : ℕ) → m ≤ℤ f → (f *ℤ pos d) ≤ℤ (lo *ℤ num) →
+    (m *ℤ pos (b * d)) ≤ℤ (lo *ℤ pos b *ℤ num)
 rounded_low m f lo num b d h k =
     rw (split_factor m b d, swapped lo (pos b) num)
     (mul_le_nat (m *ℤ pos d) (lo *ℤ num) b (le_trans (m *ℤ pos d) (f *ℤ pos d) (lo *ℤ num) (mul_le_nat m f d h) k))
 
-pub rounded_high : (m f lo num : ℤ) (b d : ℕ) → f ≤ℤ m → (lo *ℤ num) ≤ℤ (f *ℤ pos d) → (lo *ℤ pos b *ℤ num) ≤ℤ (m *ℤ pos (b * d))
+pub rounded_high : (m f lo num : ℤ) (b d : ℕ) → f ≤ℤ m → (lo *ℤ num) ≤ℤ (f *ℤ pos d) →
+    (lo *ℤ pos b *ℤ num) ≤ℤ (m *ℤ pos (b * d))
 rounded_high m f lo num b d h k =
     rw (split_factor m b d, swapped lo (pos b) num)
     (mul_le_nat (lo *ℤ num) (m *ℤ pos d) b (le_trans (lo *ℤ num) (f *ℤ pos d) (m *ℤ pos d) k (mul_le_nat f m d h)))

@@ -12,13 +12,15 @@ use Rattle.fx_math.specs.Residue.{wrap, FitsBits}
 use Rattle.fx_math.specs.Laws.{ResidueRange, ResidueCongruence}
 
 -- h is half of m
-wrap_at : (z : ℤ) (h m : ℕ) → m ≡ 2 * h → neg_ℤ (pos h) ≤ℤ z → z <ℤ pos h → int_rem_euclid (z +ℤ pos h) (pos m) -ℤ pos h ≡ z
+wrap_at : (z : ℤ) (h m : ℕ) → m ≡ 2 * h → neg_ℤ (pos h) ≤ℤ z → z <ℤ pos h →
+    int_rem_euclid (z +ℤ pos h) (pos m) -ℤ pos h ≡ z
 wrap_at z h m e low high = go (z +ℤ pos h) refl
   where
     go : (y : ℤ) → z +ℤ pos h ≡ y → int_rem_euclid (z +ℤ pos h) (pos m) -ℤ pos h ≡ z
     go (pos n) f =
         let l : n < m = omega (arith, ints, e, f) in
-        let g : int_rem_euclid (z +ℤ pos h) (pos m) ≡ pos n = ap (λ y. int_rem_euclid y (pos m)) f ∙ ap pos (mod-eq_of_lt l) in
+        let g : int_rem_euclid (z +ℤ pos h) (pos m) ≡ pos n =
+        ap (λ y. int_rem_euclid y (pos m)) f ∙ ap pos (mod-eq_of_lt l) in
         omega (arith, ints, g, f)
     go (negsuc n) f = absurd (omega (arith, ints, f))
 

@@ -39,7 +39,8 @@ total_swap (suc n) m f =
 
 -- ---- a factor that one range does not change
 
-pub collect : (m n : ℕ) (f : ℕ → ℕ → ℤ) (x : ℕ → ℤ) → total m (λ k. total n (λ i. f k i *ℤ x i)) ≡ total n (λ i. total m (λ k. f k i) *ℤ x i)
+pub collect : (m n : ℕ) (f : ℕ → ℕ → ℤ) (x : ℕ → ℤ) → total m (λ k. total n (λ i. f k i *ℤ x i))
+    ≡ total n (λ i. total m (λ k. f k i) *ℤ x i)
 collect m n f x =
     total_swap m n (λ k i. f k i *ℤ x i)
     ∙ total_ext n (λ i. total m (λ k. f k i *ℤ x i)) (λ i. total m (λ k. f k i) *ℤ x i)

@@ -7,7 +7,8 @@ use Rattle.std.proofs.lemmas.Bool.Decides.{nat_tests}
 use Rattle.fx_math.specs.Laws.{UnrolledIsItsStep}
 use Rattle.fx_math.specs.Unroll.{Step, before, fill, last, unroll}
 
-pub same_fill : (f g : ℕ → (ℕ → ℤ) → ℤ) (n : ℕ) → ((i : ℕ) → i < n → f i (fill g i) ≡ g i (fill g i)) → fill f n ≡ fill g n
+pub same_fill : (f g : ℕ → (ℕ → ℤ) → ℤ) (n : ℕ) → ((i : ℕ) → i < n → f i (fill g i) ≡ g i (fill g i)) →
+    fill f n ≡ fill g n
 same_fill f g zero h = refl
 same_fill f g (suc n) h =
     let e : fill f n ≡ fill g n = same_fill f g n (λ i l. h i (omega arith)) in

@@ -20,4 +20,6 @@ crossed x y z a b c e f =
     ∙ ap (λ n. n *ℤ a) (f ∙ mul_comm z b) ∙ mul_assoc b z a
 
 pub same_chains : SameValueChains
-same_chains a b c h e f = cancel_factor b.den (a.num *ℤ pos c.den) (c.num *ℤ pos a.den) h (crossed a.num b.num c.num (pos a.den) (pos b.den) (pos c.den) e f)
+same_chains a b c h e f =
+    cancel_factor b.den (a.num *ℤ pos c.den) (c.num *ℤ pos a.den) h
+    (crossed a.num b.num c.num (pos a.den) (pos b.den) (pos c.den) e f)

@@ -1,4 +1,5 @@
--- What a function answers, against what a definition says. Want of memory is one of its faults, and may come at any time.
+-- What a function answers, against what a definition says. Want of memory is one of its faults, and may come at any
+-- time.
 use Rattle.std.specs.Prelude.{◌≡◌, Bool, true, false, Option, Some, None, Result, Ok, Err}
 
 -- want of memory, or else the fault that is due

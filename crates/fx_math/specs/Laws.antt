@@ -34,13 +34,15 @@ SumsExchange = (n m : ℕ) (f : ℕ → ℕ → ℤ) → total n (λ i. total m 
 
 -- a factor that one range does not change is taken out of its sum
 abbrev pub SumsCollect : Type 0
-SumsCollect = (m n : ℕ) (f : ℕ → ℕ → ℤ) (x : ℕ → ℤ) → total m (λ k. total n (λ i. f k i *ℤ x i)) ≡ total n (λ i. total m (λ k. f k i) *ℤ x i)
+SumsCollect = (m n : ℕ) (f : ℕ → ℕ → ℤ) (x : ℕ → ℤ) → total m (λ k. total n (λ i. f k i *ℤ x i))
+    ≡ total n (λ i. total m (λ k. f k i) *ℤ x i)
 
 -- ---- moments
 
 -- each row of an unrolled run is its step of the finished moment and of the one before
 abbrev pub UnrolledIsItsStep : Type 0
-UnrolledIsItsStep = (n : ℕ) (step : Step) → ReadsEarlierRows n step → (k i : ℕ) → i < n → unroll n step k i ≡ step k i (unroll n step k) (before (unroll n step) k)
+UnrolledIsItsStep = (n : ℕ) (step : Step) → ReadsEarlierRows n step → (k i : ℕ) → i < n →
+    unroll n step k i ≡ step k i (unroll n step k) (before (unroll n step) k)
 
 -- ---- values
 

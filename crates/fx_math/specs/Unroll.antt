@@ -30,7 +30,8 @@ before f (suc k) j = f k j
 
 -- a step of the first n rows reads, of its own moment, earlier rows alone
 abbrev pub ReadsEarlierRows : ℕ → Step → Type 0
-ReadsEarlierRows n step = (k i : ℕ) (now later old : ℕ → ℤ) → i < n → ((j : ℕ) → j < i → now j ≡ later j) → step k i now old ≡ step k i later old
+ReadsEarlierRows n step = (k i : ℕ) (now later old : ℕ → ℤ) → i < n → ((j : ℕ) → j < i → now j ≡ later j) →
+    step k i now old ≡ step k i later old
 
 -- f, l moments before moment k; what lies before moment 0 is 0
 abbrev pub lagged : (ℕ → ℕ → ℤ) → ℕ → ℕ → ℕ → ℤ

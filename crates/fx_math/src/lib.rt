@@ -1,7 +1,8 @@
 //! What the definitions and proofs of the other crates stand on: sums over a range, division rounded down and up,
 //! residues in two's complement, and values that come moment by moment and row by row.
 //!
-//! Each function here but the test of an accumulator's bits is a law: it does nothing, and its contract is what it says.
+//! Each function here but the test of an accumulator's bits is a law: it does nothing, and its contract is what it
+//! says.
 #![tactic(auto)]
 
 ghost use Rattle.fx_math.specs.Laws.{
@@ -35,7 +36,8 @@ pub fn residue_keeps_what_fits()
     ensures { ResidueLaw }
 {}
 
-/// The residue of a number is in the range of the bits, and differs from it by a multiple of 2 to the power of the bits.
+/// The residue of a number is in the range of the bits, and differs from it by a multiple of 2 to the power of the
+/// bits.
 pub fn residue_is_congruent()
     ensures range { ResidueRange }
     ensures congruent { ResidueCongruence }

@@ -1,5 +1,6 @@
 -- Powers of two around a bound.
-use Rattle.std.proofs.Common.{◌≡◌, ◌↔◌, ℕ, zero, suc, ◌+◌, ◌-◌, ◌*◌, ◌^◌, ◌%◌, ◌<◌, ◌≤◌, ◌∙◌, max, ℤ, pos, ◌+ℤ◌, ◌*ℤ◌, ◌≤ℤ◌, IsTrue, leb, ap, refl, arith, rules, inl, inr, lit≤, lit<}
+use Rattle.std.proofs.Common.{◌≡◌, ◌↔◌, ℕ, zero, suc, ◌+◌, ◌-◌, ◌*◌, ◌^◌, ◌%◌, ◌<◌, ◌≤◌, ◌∙◌, max, ℤ, pos, ◌+ℤ◌}
+use Rattle.std.proofs.Common.{◌*ℤ◌, ◌≤ℤ◌, IsTrue, leb, ap, refl, arith, rules, inl, inr, lit≤, lit<}
 use Rattle.std.proofs.Math.Nat.{pow-le-pow_right, max-eq_right, mod-eq_of_lt, mul-le-mul_left}
 use Rattle.std.proofs.lemmas.Bool.{cases_lt}
 use Rattle.std.proofs.lemmas.Int.{ints}
@@ -32,7 +33,8 @@ width_of n (suc k) below above =
     let one : suc (suc k) - 1 ≡ suc k = omega arith in
     rw same (record { low = omega arith; fits = rw one inside; least = λ w low fits. not_fewer n k w above low fits })
 
-pub least_width_is : (x : ℤ) (n : ℕ) → x ≡ pos n → n ≤ 2147483647 → IsLeastWidth x (max 2 (64 - count_leading_zeros 64 n + 1))
+pub least_width_is : (x : ℤ) (n : ℕ) → x ≡ pos n → n ≤ 2147483647 →
+    IsLeastWidth x (max 2 (64 - count_leading_zeros 64 n + 1))
 least_width_is x n same high =
     let (m, bits, below, above) = leading_length 64 n (omega arith) in
     let count : 64 - count_leading_zeros 64 n + 1 ≡ m + 1 = omega arith in

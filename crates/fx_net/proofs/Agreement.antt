@@ -1,5 +1,6 @@
 -- Nets that run the same equations agree in each of the expanded rows.
-use Rattle.std.proofs.Common.{◌≡◌, ◌⊎◌, ℕ, zero, suc, ◌+◌, ◌-◌, ◌*◌, ◌^◌, ◌<◌, ◌≤◌, length, arith, sym, refl, inl, inr, subst, ap, ◌∙◌}
+use Rattle.std.proofs.Common.{◌≡◌, ◌⊎◌, ℕ, zero, suc, ◌+◌, ◌-◌, ◌*◌, ◌^◌, ◌<◌, ◌≤◌, length, arith, sym, refl}
+use Rattle.std.proofs.Common.{inl, inr, subst, ap, ◌∙◌}
 use Rattle.std.proofs.Math.IntN.{ℤ, pos}
 use Rattle.std.proofs.Math.Nat.{one-le-pow}
 use Rattle.std.proofs.lemmas.Bool.{cases_lt}
@@ -53,24 +54,31 @@ module _ (s : Equations) (g : ℕ) (a b : Net) (at place q p : ℕ) (u y z : ℕ
   Agrees k r = SameValue (net_value a q y k (at + r)) (net_value b p z k (place + r))
 
   at_row : (k i r : ℕ) → i < s.rows → r ≡ row_place s i → Agrees k r
-  at_row k i r h e = rw e (both (net_value a q y k (at + row_place s i)) (row_value s g u k i) (net_value b p z k (place + row_place s i)) (row_positive i k) (one.rows k i h) (other.rows k i h))
+  at_row k i r h e = rw e (both (net_value a q y k (at + row_place s i)) (row_value s g u k i)
+      (net_value b p z k (place + row_place s i)) (row_positive i k) (one.rows k i h) (other.rows k i h))
 
-  at_input_hold : (k j l r : ℕ) → j < s.inputs → l < greatest_lag (In j) s.terms → r ≡ input_hold_place s j + l → Agrees k r
+  at_input_hold : (k j l r : ℕ) → j < s.inputs → l < greatest_lag (In j) s.terms →
+      r ≡ input_hold_place s j + l → Agrees k r
   at_input_hold k j l r h m e =
       rw e
-      (both (net_value a q y k (at + (input_hold_place s j + l))) (whole (lagged u k l j)) (net_value b p z k (place + (input_hold_place s j + l))) (omega arith)
+      (both (net_value a q y k (at + (input_hold_place s j + l))) (whole (lagged u k l j))
+      (net_value b p z k (place + (input_hold_place s j + l))) (omega arith)
       (one.input_holds k j l h m) (other.input_holds k j l h m))
 
-  at_row_hold : (k j l r : ℕ) → j < s.rows → l < greatest_lag (Row j) s.terms - 1 → r ≡ row_hold_place s j + l → Agrees k r
+  at_row_hold : (k j l r : ℕ) → j < s.rows → l < greatest_lag (Row j) s.terms - 1 →
+      r ≡ row_hold_place s j + l → Agrees k r
   at_row_hold k j l r h m e =
       rw e
-      (both (net_value a q y k (at + (row_hold_place s j + l))) (earlier (λ m. row_value s g u m j) k (suc l)) (net_value b p z k (place + (row_hold_place s j + l)))
-      (earlier_positive (λ m. row_value s g u m j) (λ m. row_positive j m) k (suc l)) (one.row_holds k j l h m) (other.row_holds k j l h m))
+      (both (net_value a q y k (at + (row_hold_place s j + l))) (earlier (λ m. row_value s g u m j) k (suc l))
+      (net_value b p z k (place + (row_hold_place s j + l)))
+      (earlier_positive (λ m. row_value s g u m j) (λ m. row_positive j m) k (suc l)) (one.row_holds k j l h m)
+      (other.row_holds k j l h m))
 
   pub all_agree : (k r : ℕ) → r < length (expanded s) → Agrees k r
   all_agree k r h = by_part (cases_lt r (row_place s 0)) (cases_lt r (row_place s s.rows))
     where
-      by_part : (r < row_place s 0) ⊎ (row_place s 0 ≤ r) → (r < row_place s s.rows) ⊎ (row_place s s.rows ≤ r) → Agrees k r
+      by_part : (r < row_place s 0) ⊎ (row_place s 0 ≤ r) →
+          (r < row_place s s.rows) ⊎ (row_place s s.rows ≤ r) → Agrees k r
       by_part (inl before) _ =
           let i = in_part (λ j. greatest_lag (In j) s.terms) s.inputs r (omega arith) in
           at_input_hold k i.part i.place r i.low i.inside i.is

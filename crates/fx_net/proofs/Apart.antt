@@ -1,5 +1,6 @@
 -- Terms that differ read different sources in the net.
-use Rattle.std.proofs.Common.{◌≡◌, ℕ, zero, suc, ◌+◌, ◌-◌, ◌<◌, ◌≤◌, ◌⊎◌, List, [], ◌∷◌, arith, refl, ap, sym, ◌∙◌, inl, inr, All, true, false, eqb}
+use Rattle.std.proofs.Common.{◌≡◌, ℕ, zero, suc, ◌+◌, ◌-◌, ◌<◌, ◌≤◌, ◌⊎◌, List, [], ◌∷◌, arith, refl, ap, sym}
+use Rattle.std.proofs.Common.{◌∙◌, inl, inr, All, true, false, eqb}
 use Rattle.std.specs.Prelude.{unsigned_abs}
 use Rattle.std.specs.List.{IsDistinct}
 use Rattle.std.proofs.lemmas.Bool.{cases_eq, cases_lt, eq-eqb, and_from, cond-false, not-true}
@@ -47,7 +48,8 @@ old_is : (a b : ℕ) → Old a ≡ Old b → a ≡ b
 old_is a b e = cc
 
 -- reads of a system that are read from the same place are the same
-pub same_reads : (s : Equations) (a : Source) (l : ℕ) (b : Source) (m : ℕ) → IsRead s a l → IsRead s b m → net_read s a l ≡ net_read s b m → IsSame a l b m
+pub same_reads : (s : Equations) (a : Source) (l : ℕ) (b : Source) (m : ℕ) → IsRead s a l → IsRead s b m →
+    net_read s a l ≡ net_read s b m → IsSame a l b m
 same_reads s (Input i) zero (Input j) zero r t e = let same : i ≡ j = cc in (eq-eqb i j same, refl)
 same_reads s (Input i) (suc l) (Input j) (suc m) r t e =
     let p = old_is _ _ e in
@@ -63,21 +65,26 @@ same_reads s (Input i) (suc l) (Row j) (suc (suc m)) r t e =
     let p = old_is _ _ e in
     let h = input_hold_before s i l r.source (let x = r.lag in omega arith) in
     absurd (omega arith)
-same_reads s (Row i) zero (Row j) zero r t e = let p : row_place s i ≡ row_place s j = cc in let same : i ≡ j = omega arith in (eq-eqb i j same, refl)
-same_reads s (Row i) (suc zero) (Row j) (suc zero) r t e = let p = old_is _ _ e in let same : i ≡ j = omega arith in (eq-eqb i j same, refl)
+same_reads s (Row i) zero (Row j) zero r t e = let p : row_place s i ≡ row_place s j = cc in let same : i ≡ j =
+    omega arith in (eq-eqb i j same, refl)
+same_reads s (Row i) (suc zero) (Row j) (suc zero) r t e = let p = old_is _ _ e in let same : i ≡ j =
+    omega arith in (eq-eqb i j same, refl)
 same_reads s (Row i) (suc zero) (Input j) (suc m) r t e =
     let p = old_is _ _ e in
     let h = input_hold_before s j m t.source (let x = t.lag in omega arith) in
     absurd (omega arith)
-same_reads s (Row i) (suc zero) (Row j) (suc (suc m)) r t e = let p = old_is _ _ e in let h : i < s.rows = r.source in absurd (omega arith)
+same_reads s (Row i) (suc zero) (Row j) (suc (suc m)) r t e = let p = old_is _ _ e in let h : i < s.rows =
+    r.source in absurd (omega arith)
 same_reads s (Row i) (suc (suc l)) (Input j) (suc m) r t e =
     let p = old_is _ _ e in
     let h = input_hold_before s j m t.source (let x = t.lag in omega arith) in
     absurd (omega arith)
-same_reads s (Row i) (suc (suc l)) (Row j) (suc zero) r t e = let p = old_is _ _ e in let h : j < s.rows = t.source in absurd (omega arith)
+same_reads s (Row i) (suc (suc l)) (Row j) (suc zero) r t e = let p = old_is _ _ e in let h : j < s.rows =
+    t.source in absurd (omega arith)
 same_reads s (Row i) (suc (suc l)) (Row j) (suc (suc m)) r t e =
     let p = old_is _ _ e in
-    let p' : sum_below i (λ j. greatest_lag (Row j) s.terms - 1) + l ≡ sum_below j (λ j. greatest_lag (Row j) s.terms - 1) + m = omega arith in
+    let p' : sum_below i (λ j. greatest_lag (Row j) s.terms - 1) + l
+    ≡ sum_below j (λ j. greatest_lag (Row j) s.terms - 1) + m = omega arith in
     let h : l < greatest_lag (Row i) s.terms - 1 = let x = r.lag in omega arith in
     let k : m < greatest_lag (Row j) s.terms - 1 = let x = t.lag in omega arith in
     let same : i ≡ j = same_part (λ j. greatest_lag (Row j) s.terms - 1) i j l m h k p' in
@@ -107,24 +114,33 @@ pub record Stands (s : Equations) (t : Term) : Type 0 where
 kept_plain : (t : Term) → is_kept t ≡ true → plain t.coef ≡ t.coef
 kept_plain t e = cond-false _ _ _ (not-true (eqb (unsigned_abs t.coef.num) 0) e)
 
-differ : (s : Equations) (x y : Term) → IsRead s x.from x.lag → IsRead s y.from y.lag → x.row ≡ y.row → is_same_read y x ≡ false → net_read s y.from y.lag ≡ net_read s x.from x.lag → ⊥
+differ : (s : Equations) (x y : Term) → IsRead s x.from x.lag → IsRead s y.from y.lag → x.row ≡ y.row →
+    is_same_read y x ≡ false → net_read s y.from y.lag ≡ net_read s x.from x.lag → ⊥
 differ s x y r t rows e same =
     let is = same_reads s x.from x.lag y.from y.lag r t (sym same) in
-    let both : is_same_read y x ≡ true = and_from _ _ (eq-eqb x.row y.row rows) (and_from _ _ is.0 (eq-eqb x.lag y.lag is.1)) in
+    let both : is_same_read y x ≡ true =
+    and_from _ _ (eq-eqb x.row y.row rows) (and_from _ _ is.0 (eq-eqb x.lag y.lag is.1)) in
     cc
 
-not_read : (s : Equations) (i : ℕ) (x : Term) (ts : List Term) → x.row ≡ i → IsRead s x.from x.lag → All (Stands s) ts → All (λ y. is_same_read y x ≡ false) ts → NotRead (net_read s x.from x.lag) (net_terms s i ts)
+not_read : (s : Equations) (i : ℕ) (x : Term) (ts : List Term) → x.row ≡ i → IsRead s x.from x.lag →
+    All (Stands s) ts → All (λ y. is_same_read y x ≡ false) ts →
+    NotRead (net_read s x.from x.lag) (net_terms s i ts)
 not_read s i x [] e r stands apart = tt
 not_read s i x (y ∷ ts) e r stands apart =
-    let rest = not_read s i x ts e r (All-tail (Stands s) y ts stands) (All-tail (λ y. is_same_read y x ≡ false) y ts apart) in
+    let rest = not_read s i x ts e r (All-tail (Stands s) y ts stands)
+    (All-tail (λ y. is_same_read y x ≡ false) y ts apart) in
     elim (cases_eq y.row i) [
       | inl here ↦
-          rw (takes s i y ts here)
-          (differ s x y r (All-head (Stands s) y ts stands).read (e ∙ sym here) (All-head (λ y. is_same_read y x ≡ false) y ts apart), rest)
+          rw (takes s i y ts here) (
+            differ s x y r (All-head (Stands s) y ts stands).read (e ∙ sym here)
+                (All-head (λ y. is_same_read y x ≡ false) y ts apart),
+            rest,
+          )
       | inr other ↦ rw (passes_over s i y ts other) rest
     ]
 
-pub terms_once : (s : Equations) (i : ℕ) (ts : List Term) → All (Stands s) ts → IsDistinct (λ (e t : Term). is_same_read t e) ts → AreOnce (net_terms s i ts)
+pub terms_once : (s : Equations) (i : ℕ) (ts : List Term) → All (Stands s) ts →
+    IsDistinct (λ (e t : Term). is_same_read t e) ts → AreOnce (net_terms s i ts)
 terms_once s i [] stands once = tt
 terms_once s i (t ∷ ts) stands once =
     let here = All-head (Stands s) t ts stands in
@@ -132,6 +148,10 @@ terms_once s i (t ∷ ts) stands once =
     let rest = terms_once s i ts later (IsDistinct-tail (λ (e t : Term). is_same_read t e) t ts once) in
     let apart = distinct_head (λ (e t : Term). is_same_read t e) t ts once in
     elim (cases_eq t.row i) [
-      | inl same ↦ rw (takes s i t ts same) (not_read s i t ts same here.read later apart, kept_plain t here.fits.coefficient, rest)
+      | inl same ↦ rw (takes s i t ts same) (
+        not_read s i t ts same here.read later apart,
+        kept_plain t here.fits.coefficient,
+        rest,
+      )
       | inr other ↦ rw (passes_over s i t ts other) rest
     ]

@@ -1,5 +1,6 @@
 -- The block of a run that ends at moment k, over one denominator.
-use Rattle.std.proofs.Common.{◌≡◌, ◌⊎◌, ℕ, zero, suc, ◌+◌, ◌*◌, ◌-◌, ◌^◌, ◌<◌, ◌≤◌, arith, refl, ap, ap₂, sym, ◌∙◌, inl, inr}
+use Rattle.std.proofs.Common.{◌≡◌, ◌⊎◌, ℕ, zero, suc, ◌+◌, ◌*◌, ◌-◌, ◌^◌, ◌<◌, ◌≤◌, arith, refl, ap, ap₂, sym}
+use Rattle.std.proofs.Common.{◌∙◌, inl, inr}
 use Rattle.std.proofs.Math.IntN.{ℤ, pos, ◌+ℤ◌, ◌*ℤ◌}
 use Rattle.std.proofs.Math.Nat.{pow-succ', mul-le-mul_right}
 use Rattle.std.specs.Prelude.{unsigned_abs}
@@ -20,7 +21,8 @@ use Rattle.fx_net.proofs.Coefficients.{zero-mul}
 -- the moment n before k: a moment of the run, or one before its start
 abbrev LagCases : ℕ → ℕ → Type 0
 LagCases k n =
-    ((h : ℕ) × (k ≡ h + n) × ((f : ℕ → ℕ → ℤ) (i : ℕ) → lagged f k n i ≡ f h i) × ((f : ℕ → ℕ → ℤ) (i : ℕ) → lagged f k (suc n) i ≡ before f h i))
+    ((h : ℕ) × (k ≡ h + n) × ((f : ℕ → ℕ → ℤ) (i : ℕ) → lagged f k n i ≡ f h i)
+    × ((f : ℕ → ℕ → ℤ) (i : ℕ) → lagged f k (suc n) i ≡ before f h i))
     ⊎ (((f : ℕ → ℕ → ℤ) (i : ℕ) → lagged f k n i ≡ pos 0) × ((f : ℕ → ℕ → ℤ) (i : ℕ) → lagged f k (suc n) i ≡ pos 0))
 
 lag_cases : (k n : ℕ) → LagCases k n
@@ -46,20 +48,30 @@ powers q a b c e = ap (λ n. q * n) (sym (pow-add q a b)) ∙ sym (pow-succ' q (
 
 raise_sum : (q r : ℤ) (n : ℕ) (f : ℕ → ℤ) → q *ℤ (total n f *ℤ r) ≡ total n (λ j. q *ℤ (f j *ℤ r))
 raise_sum q r n f =
-    ap (λ x. q *ℤ x) (mul_comm (total n f) r ∙ total_mul r n f ∙ total_ext n (λ j. r *ℤ f j) (λ j. f j *ℤ r) (λ j l. mul_comm r (f j)))
+    ap (λ x. q *ℤ x) (mul_comm (total n f) r ∙ total_mul r n f
+    ∙ total_ext n (λ j. r *ℤ f j) (λ j. f j *ℤ r) (λ j l. mul_comm r (f j)))
     ∙ total_mul q n (λ j. f j *ℤ r)
 
-four_parts : (q r a b c k : ℤ) → q *ℤ ((a +ℤ b +ℤ c +ℤ k) *ℤ r) ≡ q *ℤ (a *ℤ r) +ℤ q *ℤ (b *ℤ r) +ℤ q *ℤ (c *ℤ r) +ℤ q *ℤ (k *ℤ r)
+four_parts : (q r a b c k : ℤ) → q *ℤ ((a +ℤ b +ℤ c +ℤ k) *ℤ r)
+    ≡ q *ℤ (a *ℤ r) +ℤ q *ℤ (b *ℤ r) +ℤ q *ℤ (c *ℤ r) +ℤ q *ℤ (k *ℤ r)
 four_parts q r a b c k =
     let one : (a +ℤ b +ℤ c +ℤ k) *ℤ r ≡ a *ℤ r +ℤ b *ℤ r +ℤ c *ℤ r +ℤ k *ℤ r =
     omega (arith, ints, add-mul (a +ℤ b +ℤ c) k r, add-mul (a +ℤ b) c r, add-mul a b r) in
     ap (λ x. q *ℤ x) one
-    ∙ (omega (arith, ints, mul-add q (a *ℤ r +ℤ b *ℤ r +ℤ c *ℤ r) (k *ℤ r), mul-add q (a *ℤ r +ℤ b *ℤ r) (c *ℤ r), mul-add q (a *ℤ r) (b *ℤ r)))
+    ∙ (omega (
+      arith,
+      ints,
+      mul-add q (a *ℤ r +ℤ b *ℤ r +ℤ c *ℤ r) (k *ℤ r),
+      mul-add q (a *ℤ r +ℤ b *ℤ r) (c *ℤ r),
+      mul-add q (a *ℤ r) (b *ℤ r),
+    ))
 
 -- the row of a run, brought to it
-pub lifted_row : (net : Net) (q : ℕ) (u z perturbations : ℕ → ℕ → ℤ) → IsRun net q u z perturbations → (h n i : ℕ) → i < net.rows →
+pub lifted_row : (net : Net) (q : ℕ) (u z perturbations : ℕ → ℕ → ℤ) → IsRun net q u z perturbations →
+    (h n i : ℕ) → i < net.rows →
     pos q *ℤ (z h i *ℤ pos (raise net q n i))
-    ≡ reads net q i (λ j. z h j *ℤ pos (raise net q n j)) (λ j. before z h j *ℤ pos (raise net q (suc n) j)) (λ j. u h j *ℤ pos (q ^ (suc (h + n) * net.rows)))
+    ≡ reads net q i (λ j. z h j *ℤ pos (raise net q n j)) (λ j.
+    before z h j *ℤ pos (raise net q (suc n) j)) (λ j. u h j *ℤ pos (q ^ (suc (h + n) * net.rows)))
     +ℤ pos q *ℤ (perturbations h i *ℤ pos (raise net q n i))
 unfolding row_sum
 lifted_row net q u z perturbations run h n i l =
@@ -69,19 +81,34 @@ lifted_row net q u z perturbations run h n i l =
     (total net.rows (λ j. over q (net.old i j) *ℤ before z h j *ℤ pos (q ^ (net.rows + i - j - 1))))
     (total PORTS (λ j. over q (net.input i j) *ℤ u h j *ℤ pos (q ^ row_time net h i)))
     (perturbations h i)
-    ∙ ap₂ (λ x y. x +ℤ y +ℤ pos q *ℤ (total PORTS (λ j. over q (net.input i j) *ℤ u h j *ℤ pos (q ^ row_time net h i)) *ℤ pos (raise net q n i)) +ℤ pos q *ℤ (perturbations h i *ℤ pos (raise net q n i)))
+    ∙ ap₂ (λ x y. x +ℤ y +ℤ pos q *ℤ (total PORTS (λ j.
+    over q (net.input i j) *ℤ u h j *ℤ pos (q ^ row_time net h i)) *ℤ pos (raise net q n i)) +ℤ pos q *ℤ
+    (perturbations h i *ℤ pos (raise net q n i)))
     (raise_sum (pos q) (pos (raise net q n i)) i (λ j. over q (net.now i j) *ℤ z h j *ℤ pos (q ^ (i - j - 1)))
-    ∙ total_ext i (λ j. pos q *ℤ ((over q (net.now i j) *ℤ z h j *ℤ pos (q ^ (i - j - 1))) *ℤ pos (raise net q n i))) (λ j. over q (net.now i j) *ℤ (z h j *ℤ pos (raise net q n j)))
+    ∙ total_ext i (λ j. pos q *ℤ
+    ((over q (net.now i j) *ℤ z h j *ℤ pos (q ^ (i - j - 1))) *ℤ pos (raise net q n i))) (λ j.
+    over q (net.now i j) *ℤ (z h j *ℤ pos (raise net q n j)))
     (λ j k. lifted (over q (net.now i j)) (z h j) q (q ^ (i - j - 1)) (raise net q n i) (raise net q n j)
     (powers q (n * net.rows + (net.rows - (i + 1))) (i - j - 1) (n * net.rows + (net.rows - (j + 1))) (omega arith))))
-    (raise_sum (pos q) (pos (raise net q n i)) net.rows (λ j. over q (net.old i j) *ℤ before z h j *ℤ pos (q ^ (net.rows + i - j - 1)))
-    ∙ total_ext net.rows (λ j. pos q *ℤ ((over q (net.old i j) *ℤ before z h j *ℤ pos (q ^ (net.rows + i - j - 1))) *ℤ pos (raise net q n i))) (λ j. over q (net.old i j) *ℤ (before z h j *ℤ pos (raise net q (suc n) j)))
-    (λ j k. lifted (over q (net.old i j)) (before z h j) q (q ^ (net.rows + i - j - 1)) (raise net q n i) (raise net q (suc n) j)
-    (powers q (n * net.rows + (net.rows - (i + 1))) (net.rows + i - j - 1) (suc n * net.rows + (net.rows - (j + 1))) (omega arith))))
-    ∙ ap (λ x. total i (λ j. over q (net.now i j) *ℤ (z h j *ℤ pos (raise net q n j))) +ℤ total net.rows (λ j. over q (net.old i j) *ℤ (before z h j *ℤ pos (raise net q (suc n) j))) +ℤ x +ℤ pos q *ℤ (perturbations h i *ℤ pos (raise net q n i)))
-    (raise_sum (pos q) (pos (raise net q n i)) PORTS (λ j. over q (net.input i j) *ℤ u h j *ℤ pos (q ^ row_time net h i))
-    ∙ total_ext PORTS (λ j. pos q *ℤ ((over q (net.input i j) *ℤ u h j *ℤ pos (q ^ row_time net h i)) *ℤ pos (raise net q n i))) (λ j. over q (net.input i j) *ℤ (u h j *ℤ pos (q ^ (suc (h + n) * net.rows))))
-    (λ j k. lifted (over q (net.input i j)) (u h j) q (q ^ row_time net h i) (raise net q n i) (q ^ (suc (h + n) * net.rows))
+    (raise_sum (pos q) (pos (raise net q n i)) net.rows (λ j.
+    over q (net.old i j) *ℤ before z h j *ℤ pos (q ^ (net.rows + i - j - 1)))
+    ∙ total_ext net.rows (λ j.
+    pos q *ℤ ((over q (net.old i j) *ℤ before z h j *ℤ pos (q ^ (net.rows + i - j - 1))) *ℤ pos
+    (raise net q n i))) (λ j. over q (net.old i j) *ℤ (before z h j *ℤ pos (raise net q (suc n) j)))
+    (λ j k. lifted (over q (net.old i j)) (before z h j) q (q ^ (net.rows + i - j - 1)) (raise net q n i)
+    (raise net q (suc n) j)
+    (powers q (n * net.rows + (net.rows - (i + 1))) (net.rows + i - j - 1) (suc n * net.rows
+    + (net.rows - (j + 1))) (omega arith))))
+    ∙ ap (λ x. total i (λ j. over q (net.now i j) *ℤ (z h j *ℤ pos (raise net q n j))) +ℤ total net.rows (λ j.
+    over q (net.old i j) *ℤ (before z h j *ℤ pos (raise net q (suc n) j))) +ℤ x +ℤ pos q *ℤ
+    (perturbations h i *ℤ pos (raise net q n i)))
+    (raise_sum (pos q) (pos (raise net q n i)) PORTS (λ j.
+    over q (net.input i j) *ℤ u h j *ℤ pos (q ^ row_time net h i))
+    ∙ total_ext PORTS (λ j. pos q *ℤ
+    ((over q (net.input i j) *ℤ u h j *ℤ pos (q ^ row_time net h i)) *ℤ pos (raise net q n i))) (λ j.
+    over q (net.input i j) *ℤ (u h j *ℤ pos (q ^ (suc (h + n) * net.rows))))
+    (λ j k. lifted (over q (net.input i j)) (u h j) q (q ^ row_time net h i) (raise net q n i)
+    (q ^ (suc (h + n) * net.rows))
     (powers q (n * net.rows + (net.rows - (i + 1))) (row_time net h i) (suc (h + n) * net.rows) (omega arith))))
 
 -- ---- the block that ends at moment k
@@ -89,14 +116,23 @@ lifted_row net q u z perturbations run h n i l =
 same_row : (net : Net) (q i : ℕ) (a a' k k' : ℤ) (v v' o o' u u' : ℕ → ℤ) → a ≡ a' → v ≡ v' → o ≡ o' → u ≡ u' → k ≡ k' →
     pos q *ℤ a' ≡ reads net q i v' o' u' +ℤ pos q *ℤ k' → pos q *ℤ a ≡ reads net q i v o u +ℤ pos q *ℤ k
 same_row net q i a a' k k' v v' o o' u u' ea ev eo eu ek h =
-    let last : reads net q i v o u +ℤ pos q *ℤ k ≡ reads net q i v' o' u' +ℤ pos q *ℤ k' = λ t. reads net q i (ev t) (eo t) (eu t) +ℤ pos q *ℤ ek t in
+    let last : reads net q i v o u +ℤ pos q *ℤ k ≡ reads net q i v' o' u' +ℤ pos q *ℤ k' =
+    λ t. reads net q i (ev t) (eo t) (eu t) +ℤ pos q *ℤ ek t in
     ap (λ x. pos q *ℤ x) ea ∙ h ∙ sym last
 
 nothing : (n : ℕ) (c : ℕ → ℤ) → total n (λ j. c j *ℤ pos 0) ≡ pos 0
-nothing n c = total_ext n (λ j. c j *ℤ pos 0) (λ j. pos 0) (λ j l. mul_comm (c j) (pos 0) ∙ zero-mul (c j)) ∙ total_zero n
+nothing n c = total_ext n (λ j. c j *ℤ pos 0) (λ j. pos 0) (λ j l. mul_comm (c j) (pos 0) ∙ zero-mul (c j))
+    ∙ total_zero n
 
-reads_nothing : (net : Net) (q i : ℕ) → pos q *ℤ pos 0 ≡ reads net q i (λ j. pos 0) (λ j. pos 0) (λ j. pos 0) +ℤ pos q *ℤ pos 0
-reads_nothing net q i = omega (arith, ints, nothing i (λ j. over q (net.now i j)), nothing net.rows (λ j. over q (net.old i j)), nothing PORTS (λ j. over q (net.input i j)))
+reads_nothing : (net : Net) (q i : ℕ) →
+    pos q *ℤ pos 0 ≡ reads net q i (λ j. pos 0) (λ j. pos 0) (λ j. pos 0) +ℤ pos q *ℤ pos 0
+reads_nothing net q i = omega (
+  arith,
+  ints,
+  nothing i (λ j. over q (net.now i j)),
+  nothing net.rows (λ j. over q (net.old i j)),
+  nothing PORTS (λ j. over q (net.input i j)),
+)
 
 pub block_of_run : (net : Net) (q : ℕ) (u z perturbations : ℕ → ℕ → ℤ) → IsRun net q u z perturbations → (k : ℕ) →
     IsBlock net q (block_den net q k) (raised net q z k) (lagged u k) (raised net q perturbations k)
@@ -104,9 +140,11 @@ block_of_run net q u z perturbations run k = record { row = λ n i l. row n i l 
   where
     row : (n i : ℕ) → i < net.rows →
         pos q *ℤ raised net q z k n i
-        ≡ reads net q i (raised net q z k n) (raised net q z k (suc n)) (λ j. lagged u k n j *ℤ pos (block_den net q k)) +ℤ pos q *ℤ raised net q perturbations k n i
+        ≡ reads net q i (raised net q z k n) (raised net q z k (suc n)) (λ j.
+        lagged u k n j *ℤ pos (block_den net q k)) +ℤ pos q *ℤ raised net q perturbations k n i
     row n i l = elim (lag_cases k n) [
-      | inl c ↦ same_row net q i (raised net q z k n i) (z c.0 i *ℤ pos (raise net q n i)) (raised net q perturbations k n i) (perturbations c.0 i *ℤ pos (raise net q n i))
+      | inl c ↦ same_row net q i (raised net q z k n i) (z c.0 i *ℤ pos (raise net q n i))
+          (raised net q perturbations k n i) (perturbations c.0 i *ℤ pos (raise net q n i))
           (raised net q z k n) (λ j. z c.0 j *ℤ pos (raise net q n j))
           (raised net q z k (suc n)) (λ j. before z c.0 j *ℤ pos (raise net q (suc n) j))
           (λ j. lagged u k n j *ℤ pos (block_den net q k)) (λ j. u c.0 j *ℤ pos (q ^ (suc (c.0 + n) * net.rows)))
@@ -117,7 +155,8 @@ block_of_run net q u z perturbations run k = record { row = λ n i l. row n i l 
           (ap (λ x. x *ℤ pos (raise net q n i)) (c.2 perturbations i))
           (lifted_row net q u z perturbations run c.0 n i l)
       | inr c ↦ same_row net q i (raised net q z k n i) (pos 0) (raised net q perturbations k n i) (pos 0)
-          (raised net q z k n) (λ j. pos 0) (raised net q z k (suc n)) (λ j. pos 0) (λ j. lagged u k n j *ℤ pos (block_den net q k)) (λ j. pos 0)
+          (raised net q z k n) (λ j. pos 0) (raised net q z k (suc n)) (λ j. pos 0) (λ j.
+          lagged u k n j *ℤ pos (block_den net q k)) (λ j. pos 0)
           (ap (λ x. x *ℤ pos (raise net q n i)) (c.0 z i) ∙ zero-mul (pos (raise net q n i)))
           (fun_ext (λ j. ap (λ x. x *ℤ pos (raise net q n j)) (c.0 z j) ∙ zero-mul (pos (raise net q n j))))
           (fun_ext (λ j. ap (λ x. x *ℤ pos (raise net q (suc n) j)) (c.1 z j) ∙ zero-mul (pos (raise net q (suc n) j))))
@@ -134,19 +173,24 @@ lift_le c x z a b d h e =
     let three : x * d ≡ x * (a * b) = ap (λ n. x * n) (sym e) in
     rw (one, three) (omega (arith, two))
 
-pub to_den : (net : Net) (q k h n i : ℕ) → k ≡ h + n → i < net.rows → q ^ (row_time net h i + 1) * raise net q n i ≡ block_den net q k
+pub to_den : (net : Net) (q k h n i : ℕ) → k ≡ h + n → i < net.rows →
+    q ^ (row_time net h i + 1) * raise net q n i ≡ block_den net q k
 to_den net q k h n i e l =
     sym (pow-add q (row_time net h i + 1) (n * net.rows + (net.rows - (i + 1))))
-    ∙ ap (λ m. q ^ m) (let f : suc k * net.rows ≡ suc (h + n) * net.rows = ap (λ m. suc m * net.rows) e in omega (arith, f))
+    ∙ ap (λ m. q ^ m) (let f : suc k * net.rows ≡ suc (h + n) * net.rows =
+    ap (λ m. suc m * net.rows) e in omega (arith, f))
 
 -- a bound of row i at moment n before k, where it is one at the moment of the run
 pub raised_le : (net : Net) (q c x : ℕ) (z : ℕ → ℕ → ℤ) (k n i : ℕ) → i < net.rows →
     ((h : ℕ) → k ≡ h + n → c * unsigned_abs (z h i) ≤ x * q ^ (row_time net h i + 1)) →
     c * unsigned_abs (raised net q z k n i) ≤ x * block_den net q k
 raised_le net q c x z k n i l b = elim (lag_cases k n) [
-  | inl s ↦ (let e : raised net q z k n i ≡ z s.0 i *ℤ pos (raise net q n i) = ap (λ y. y *ℤ pos (raise net q n i)) (s.2 z i) in
-      rw e (lift_le c x (z s.0 i) (q ^ (row_time net s.0 i + 1)) (raise net q n i) (block_den net q k) (b s.0 s.1) (to_den net q k s.0 n i s.1 l)))
-  | inr s ↦ (let e : raised net q z k n i ≡ pos 0 = ap (λ y. y *ℤ pos (raise net q n i)) (s.0 z i) ∙ zero-mul (pos (raise net q n i)) in
+  | inl s ↦ (let e : raised net q z k n i ≡ z s.0 i *ℤ pos (raise net q n i) =
+      ap (λ y. y *ℤ pos (raise net q n i)) (s.2 z i) in
+      rw e (lift_le c x (z s.0 i) (q ^ (row_time net s.0 i + 1)) (raise net q n i) (block_den net q k)
+      (b s.0 s.1) (to_den net q k s.0 n i s.1 l)))
+  | inr s ↦ (let e : raised net q z k n i ≡ pos 0 = ap (λ y. y *ℤ pos (raise net q n i)) (s.0 z i)
+      ∙ zero-mul (pos (raise net q n i)) in
       rw e (omega arith))
 ]
 

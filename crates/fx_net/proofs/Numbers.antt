@@ -1,5 +1,6 @@
 -- The number at a place of a list, and a net's fit.
-use Rattle.std.proofs.Common.{◌≡◌, ℕ, ◌<◌, ◌≤◌, ◌+◌, ◌⊎◌, List, length, get_or, set, replicate, All, ap, sym, ◌∙◌, inl, inr, arith, get_or-set_same, get_or-set_other, cond, eqb}
+use Rattle.std.proofs.Common.{◌≡◌, ℕ, ◌<◌, ◌≤◌, ◌+◌, ◌⊎◌, List, length, get_or, set, replicate, All, ap, sym}
+use Rattle.std.proofs.Common.{◌∙◌, inl, inr, arith, get_or-set_same, get_or-set_other, cond, eqb}
 use mathlib.Core.Path.{fun_ext}
 use Rattle.std.proofs.lemmas.Bool.{cond-true, cond-false, eq-eqb, ne_eqb, cases_lt, cases_eq}
 use Rattle.std.proofs.lemmas.List.{get_or_read, get_or-replicate, get_or_past, length-replicate}
@@ -39,7 +40,8 @@ zero_numbers n xs e = fun_ext (λ i. rw e (by_place i (cases_lt i n)))
     by_place i (inr r) = get_or_past (replicate n 0) i 0 (omega (arith, length-replicate {A = ℕ} n 0))
 
 -- a written number is read at its place
-pub written_number : (xs : List ℕ) (i e : ℕ) → i < length xs → number_at (set xs i e) ≡ (λ p. cond (eqb p i) e (number_at xs p))
+pub written_number : (xs : List ℕ) (i e : ℕ) → i < length xs →
+    number_at (set xs i e) ≡ (λ p. cond (eqb p i) e (number_at xs p))
 unfolding number_at
 written_number xs i e h = fun_ext (λ p. by_place p (cases_eq p i))
   where
@@ -48,7 +50,8 @@ written_number xs i e h = fun_ext (λ p. by_place p (cases_eq p i))
     by_place p (inr a) = get_or-set_other xs i p e 0 a ∙ sym (cond-false _ _ _ (ne_eqb p i a))
 
 -- a list that agrees with f below n agrees below n + 1 once f n is written
-pub one_more_written : (xs : List ℕ) (f : ℕ → ℕ) (n v : ℕ) → n < length xs → v ≡ f n → ((k : ℕ) → k < n → get_or xs k 0 ≡ f k) → (k : ℕ) → k < n + 1 → get_or (set xs n v) k 0 ≡ f k
+pub one_more_written : (xs : List ℕ) (f : ℕ → ℕ) (n v : ℕ) → n < length xs → v ≡ f n →
+    ((k : ℕ) → k < n → get_or xs k 0 ≡ f k) → (k : ℕ) → k < n + 1 → get_or (set xs n v) k 0 ≡ f k
 one_more_written xs f n v h e before k l = by_place (cases_eq k n)
   where
     by_place : (k ≡ n) ⊎ (k ≡ n → ⊥) → get_or (set xs n v) k 0 ≡ f k

@@ -1,11 +1,13 @@
 -- Where the rows of an expanded net stand.
-use Rattle.std.proofs.Common.{◌≡◌, ℕ, zero, suc, ◌+◌, ◌-◌, ◌<◌, ◌≤◌, List, [], ◌∷◌, ◌++◌, length, add-one, arith, refl, ap, ap₂, sym, ◌∙◌, inl, inr, length-append}
+use Rattle.std.proofs.Common.{◌≡◌, ℕ, zero, suc, ◌+◌, ◌-◌, ◌<◌, ◌≤◌, List, [], ◌∷◌, ◌++◌, length, add-one}
+use Rattle.std.proofs.Common.{arith, refl, ap, ap₂, sym, ◌∙◌, inl, inr, length-append}
 use Rattle.std.proofs.lemmas.Bool.{cases_lt}
 use Rattle.fx_math.specs.Sums.{joined, sum_below}
 use Rattle.fx_nums.specs.Fraction.{one_fraction}
 use Rattle.fx_eqs.proofs.Expanding.{length-expanded}
 use Rattle.fx_eqs.specs.Equations.{Equations}
-use Rattle.fx_eqs.specs.Expanded.{NetRead, NetTerm, hold_rows, expanded, equation_row, input_hold_place, row_place, row_hold_place}
+use Rattle.fx_eqs.specs.Expanded.{NetRead, NetTerm, hold_rows, expanded, equation_row, input_hold_place}
+use Rattle.fx_eqs.specs.Expanded.{row_place, row_hold_place}
 use Rattle.fx_eqs.specs.Expanded.NetRead.{Old, In}
 use Rattle.fx_eqs.specs.Lags.{greatest_lag}
 use Rattle.fx_eqs.specs.declared.term.Source.TheVariants.{Row, In as Input}
@@ -56,28 +58,34 @@ abbrev pub held : NetRead → ℕ → ℕ → NetRead
 held from place zero = from
 held from place (suc l) = Old (place + l)
 
-pub hold_row : (from : NetRead) (count place l : ℕ) → l < count → row_of (hold_rows from count place) l ≡ record { coef = one_fraction; from = held from place l } ∷ []
+pub hold_row : (from : NetRead) (count place l : ℕ) → l < count →
+    row_of (hold_rows from count place) l ≡ record { coef = one_fraction; from = held from place l } ∷ []
 hold_row from zero place l h = absurd (omega arith)
 hold_row from (suc count) place zero h = row_first _ (hold_rows (Old place) count (place + 1))
 hold_row from (suc count) place (suc l) h =
-    row_later (record { coef = one_fraction; from = from } ∷ []) (hold_rows (Old place) count (place + 1)) l ∙ hold_row (Old place) count (place + 1) l (omega arith)
+    row_later (record { coef = one_fraction; from = from } ∷ []) (hold_rows (Old place) count (place + 1)) l
+    ∙ hold_row (Old place) count (place + 1) l (omega arith)
     ∙ ap (λ r. record { coef = one_fraction; from = r } ∷ []) (next l)
   where
     next : (l : ℕ) → held (Old place) (place + 1) l ≡ Old (place + l)
     next zero = ap Old (omega arith)
     next (suc l) = ap Old (omega arith)
 
-pub length-joined : (f : ℕ → List (List NetTerm)) (size : ℕ → ℕ) → ((j : ℕ) → length (f j) ≡ size j) → (n : ℕ) → length (joined n f) ≡ sum_below n size
+pub length-joined : (f : ℕ → List (List NetTerm)) (size : ℕ → ℕ) → ((j : ℕ) → length (f j) ≡ size j) →
+    (n : ℕ) → length (joined n f) ≡ sum_below n size
 length-joined f size each zero = refl
-length-joined f size each (suc n) = length-append (joined n f) (f n) ∙ ap₂ (λ a b. a + b) (length-joined f size each n) (each n)
+length-joined f size each (suc n) = length-append (joined n f) (f n)
+    ∙ ap₂ (λ a b. a + b) (length-joined f size each n) (each n)
 
 -- row l of the j-th part
-pub joined_row : (f : ℕ → List (List NetTerm)) (size : ℕ → ℕ) → ((j : ℕ) → length (f j) ≡ size j) → (n j l : ℕ) → j < n → l < size j → row_of (joined n f) (sum_below j size + l) ≡ row_of (f j) l
+pub joined_row : (f : ℕ → List (List NetTerm)) (size : ℕ → ℕ) → ((j : ℕ) → length (f j) ≡ size j) →
+    (n j l : ℕ) → j < n → l < size j → row_of (joined n f) (sum_below j size + l) ≡ row_of (f j) l
 joined_row f size each zero j l h k = absurd (omega arith)
 joined_row f size each (suc n) j l h k =
     elim (cases_lt j n) [
       | inl below ↦
-          let inside : sum_below j size + l < length (joined n f) = omega (arith, length-joined f size each n, sum_within size n j below) in
+          let inside : sum_below j size + l < length (joined n f) =
+          omega (arith, length-joined f size each n, sum_within size n j below) in
           row_left (joined n f) (f n) (sum_below j size + l) inside ∙ joined_row f size each n j l below k
       | inr at ↦
           let same : j ≡ n = omega arith in
@@ -92,53 +100,94 @@ module _ (s : Equations) where
   ones (suc n) = let before = ones n in omega arith
 
   pub length-input_holds : (n : ℕ) → length (input_holds s n) ≡ input_hold_place s n
-  length-input_holds n = length-joined (λ j. hold_rows (In j) (greatest_lag (Input j) s.terms) (input_hold_place s j)) (λ j. greatest_lag (Input j) s.terms) (λ j. length-hold_rows (In j) (greatest_lag (Input j) s.terms) (input_hold_place s j)) n
+  length-input_holds n = length-joined (λ j.
+      hold_rows (In j) (greatest_lag (Input j) s.terms) (input_hold_place s j)) (λ j.
+      greatest_lag (Input j) s.terms) (λ j.
+      length-hold_rows (In j) (greatest_lag (Input j) s.terms) (input_hold_place s j)) n
 
   pub length-equations : (n : ℕ) → length (equations s n) ≡ n
   length-equations n = length-joined (λ i. equation_row s i ∷ []) (λ i. 1) (λ i. refl) n ∙ ones n
 
   pub length-row_holds : (n : ℕ) → length (row_holds s n) ≡ sum_below n (λ j. greatest_lag (Row j) s.terms - 1)
-  length-row_holds n = length-joined (λ j. hold_rows (Old (row_place s j)) (greatest_lag (Row j) s.terms - 1) (row_hold_place s j)) (λ j. greatest_lag (Row j) s.terms - 1) (λ j. length-hold_rows (Old (row_place s j)) (greatest_lag (Row j) s.terms - 1) (row_hold_place s j)) n
+  length-row_holds n = length-joined (λ j.
+      hold_rows (Old (row_place s j)) (greatest_lag (Row j) s.terms - 1) (row_hold_place s j)) (λ j.
+      greatest_lag (Row j) s.terms - 1) (λ j.
+      length-hold_rows (Old (row_place s j)) (greatest_lag (Row j) s.terms - 1) (row_hold_place s j)) n
 
   -- each part ends where the next begins, and the last one at the end
-  pub input_hold_before : (j l : ℕ) → j < s.inputs → l < greatest_lag (Input j) s.terms → input_hold_place s j + l < row_place s 0
+  pub input_hold_before : (j l : ℕ) → j < s.inputs → l < greatest_lag (Input j) s.terms →
+      input_hold_place s j + l < row_place s 0
   input_hold_before j l h k = let w = sum_within (λ j. greatest_lag (Input j) s.terms) s.inputs j h in omega arith
 
   pub row_hold_end : row_hold_place s s.rows ≡ length (expanded s)
   row_hold_end = sym (length-expanded s)
 
-  pub row_hold_inside : (j l : ℕ) → j < s.rows → l < greatest_lag (Row j) s.terms - 1 → row_hold_place s j + l < length (expanded s)
-  row_hold_inside j l h k = let w = sum_within (λ j. greatest_lag (Row j) s.terms - 1) s.rows j h in let e = row_hold_end in omega arith
+  pub row_hold_inside : (j l : ℕ) → j < s.rows → l < greatest_lag (Row j) s.terms - 1 →
+      row_hold_place s j + l < length (expanded s)
+  row_hold_inside j l h k = let w = sum_within (λ j. greatest_lag (Row j) s.terms - 1) s.rows j h in let e =
+      row_hold_end in omega arith
 
   pub row_inside : (i : ℕ) → i < s.rows → row_place s i < length (expanded s)
   row_inside i h = let e = row_hold_end in omega arith
 
-  pub input_hold_inside : (j l : ℕ) → j < s.inputs → l < greatest_lag (Input j) s.terms → input_hold_place s j + l < length (expanded s)
+  pub input_hold_inside : (j l : ℕ) → j < s.inputs → l < greatest_lag (Input j) s.terms →
+      input_hold_place s j + l < length (expanded s)
   input_hold_inside j l h k = let b = input_hold_before j l h k in let e = row_hold_end in omega arith
 
   -- what stands there
-  pub at_input_hold : (j l : ℕ) → j < s.inputs → l < greatest_lag (Input j) s.terms → row_of (expanded s) (input_hold_place s j + l) ≡ record { coef = one_fraction; from = held (In j) (input_hold_place s j) l } ∷ []
+  pub at_input_hold : (j l : ℕ) → j < s.inputs → l < greatest_lag (Input j) s.terms →
+      row_of (expanded s) (input_hold_place s j + l) ≡ record {
+        coef = one_fraction;
+        from =
+            held (In j) (input_hold_place s j) l;
+      } ∷ []
   at_input_hold j l h k =
       let b = input_hold_before j l h k in
-      let inside : input_hold_place s j + l < length (input_holds s s.inputs) = omega (arith, length-input_holds s.inputs) in
-      let inside' : input_hold_place s j + l < length ((input_holds s s.inputs) ++ (equations s s.rows)) = omega (arith, length-append (input_holds s s.inputs) (equations s s.rows)) in
-      row_left ((input_holds s s.inputs) ++ (equations s s.rows)) (row_holds s s.rows) (input_hold_place s j + l) inside' ∙ row_left (input_holds s s.inputs) (equations s s.rows) (input_hold_place s j + l) inside
-      ∙ joined_row (λ j. hold_rows (In j) (greatest_lag (Input j) s.terms) (input_hold_place s j)) (λ j. greatest_lag (Input j) s.terms) (λ j. length-hold_rows (In j) (greatest_lag (Input j) s.terms) (input_hold_place s j)) s.inputs j l h k
+      let inside : input_hold_place s j + l < length (input_holds s s.inputs) =
+      omega (arith, length-input_holds s.inputs) in
+      let inside' : input_hold_place s j + l < length ((input_holds s s.inputs) ++ (equations s s.rows)) =
+      omega (arith, length-append (input_holds s s.inputs) (equations s s.rows)) in
+      row_left ((input_holds s s.inputs) ++ (equations s s.rows)) (row_holds s s.rows) (input_hold_place s j
+      + l) inside' ∙ row_left (input_holds s s.inputs) (equations s s.rows) (input_hold_place s j + l) inside
+      ∙ joined_row (λ j. hold_rows (In j) (greatest_lag (Input j) s.terms) (input_hold_place s j)) (λ j.
+      greatest_lag (Input j) s.terms) (λ j.
+      length-hold_rows (In j) (greatest_lag (Input j) s.terms) (input_hold_place s j)) s.inputs j l h k
       ∙ hold_row (In j) (greatest_lag (Input j) s.terms) (input_hold_place s j) l k
 
   pub at_row : (i : ℕ) → i < s.rows → row_of (expanded s) (row_place s i) ≡ equation_row s i
   at_row i h =
-      let inside : row_place s i < length ((input_holds s s.inputs) ++ (equations s s.rows)) = omega (arith, length-append (input_holds s s.inputs) (equations s s.rows), length-input_holds s.inputs, length-equations s.rows) in
+      let inside : row_place s i < length ((input_holds s s.inputs) ++ (equations s s.rows)) =
+      omega (
+        arith,
+        length-append (input_holds s s.inputs) (equations s s.rows),
+        length-input_holds s.inputs,
+        length-equations s.rows,
+      ) in
       let same : i ≡ sum_below i (λ i. 1) + 0 = omega (arith, ones i) in
       row_left ((input_holds s s.inputs) ++ (equations s s.rows)) (row_holds s s.rows) (row_place s i) inside
-      ∙ row_right (input_holds s s.inputs) (equations s s.rows) (row_place s i) i (omega (arith, length-input_holds s.inputs))
+      ∙ row_right (input_holds s s.inputs) (equations s s.rows) (row_place s i) i
+      (omega (arith, length-input_holds s.inputs))
       ∙ ap (row_of (equations s s.rows)) same
       ∙ joined_row (λ i. equation_row s i ∷ []) (λ i. 1) (λ i. refl) s.rows i 0 h (omega arith)
       ∙ row_first (equation_row s i) []
 
-  pub at_row_hold : (j l : ℕ) → j < s.rows → l < greatest_lag (Row j) s.terms - 1 → row_of (expanded s) (row_hold_place s j + l) ≡ record { coef = one_fraction; from = held (Old (row_place s j)) (row_hold_place s j) l } ∷ []
+  pub at_row_hold : (j l : ℕ) → j < s.rows → l < greatest_lag (Row j) s.terms - 1 →
+      row_of (expanded s) (row_hold_place s j + l) ≡ record {
+        coef = one_fraction;
+        from =
+            held (Old (row_place s j)) (row_hold_place s j) l;
+      } ∷ []
   at_row_hold j l h k =
-      row_right ((input_holds s s.inputs) ++ (equations s s.rows)) (row_holds s s.rows) (row_hold_place s j + l) (sum_below j (λ j. greatest_lag (Row j) s.terms - 1) + l)
-      (omega (arith, length-append (input_holds s s.inputs) (equations s s.rows), length-input_holds s.inputs, length-equations s.rows))
-      ∙ joined_row (λ j. hold_rows (Old (row_place s j)) (greatest_lag (Row j) s.terms - 1) (row_hold_place s j)) (λ j. greatest_lag (Row j) s.terms - 1) (λ j. length-hold_rows (Old (row_place s j)) (greatest_lag (Row j) s.terms - 1) (row_hold_place s j)) s.rows j l h k
+      row_right ((input_holds s s.inputs) ++ (equations s s.rows)) (row_holds s s.rows) (row_hold_place s j
+      + l) (sum_below j (λ j. greatest_lag (Row j) s.terms - 1) + l)
+      (omega (
+        arith,
+        length-append (input_holds s s.inputs) (equations s s.rows),
+        length-input_holds s.inputs,
+        length-equations s.rows,
+      ))
+      ∙ joined_row (λ j. hold_rows (Old (row_place s j)) (greatest_lag (Row j) s.terms - 1)
+      (row_hold_place s j)) (λ j. greatest_lag (Row j) s.terms - 1) (λ j.
+      length-hold_rows (Old (row_place s j)) (greatest_lag (Row j) s.terms - 1) (row_hold_place s j)) s.rows
+      j l h k
       ∙ hold_row (Old (row_place s j)) (greatest_lag (Row j) s.terms - 1) (row_hold_place s j) l k

@@ -1,5 +1,6 @@
 -- What the terms of an equation system read in its expanded net.
-use Rattle.std.proofs.Common.{◌≡◌, ℕ, zero, suc, ◌+◌, ◌-◌, ◌<◌, ◌≤◌, List, [], ◌∷◌, length, get_or, arith, refl, ap, sym, subst, drop, drop-cons, add-one, ◌∙◌, All, true, map, filter, ◌==◌}
+use Rattle.std.proofs.Common.{◌≡◌, ℕ, zero, suc, ◌+◌, ◌-◌, ◌<◌, ◌≤◌, List, [], ◌∷◌, length, get_or, arith, refl}
+use Rattle.std.proofs.Common.{ap, sym, subst, drop, drop-cons, add-one, ◌∙◌, All, true, map, filter, ◌==◌}
 use Rattle.std.proofs.lemmas.Bool.{eq-eqb, ne_eqb, cond-true}
 use Rattle.fx_eqs.specs.declared.limits.TheConstants.{PORTS}
 use Rattle.fx_eqs.specs.Equations.{Equations}
@@ -36,31 +37,44 @@ same_itself (Row i) = eq-eqb i i refl
 same_itself (Input j) = eq-eqb j j refl
 
 -- each term's lag is at most the greatest of its source
-pub lag_high : (ts : List Term) (k : ℕ) (d : Term) → k < length ts → (get_or ts k d).lag ≤ greatest_lag (get_or ts k d).from ts
+pub lag_high : (ts : List Term) (k : ℕ) (d : Term) → k < length ts →
+    (get_or ts k d).lag ≤ greatest_lag (get_or ts k d).from ts
 lag_high [] k d h = absurd (omega arith)
 lag_high (t ∷ ts) zero d h = let e = cond-true (same_source t.from t.from) t.lag 0 (same_itself t.from) in omega arith
 lag_high (t ∷ ts) (suc k) d h = let rest = lag_high ts k d (omega arith) in omega arith
 
 -- so each term reads what is there
-pub item_read : (s : Equations) (k : ℕ) (t : Term) → k < length s.terms → t ≡ get_or s.terms k t → SourceFits s.rows s.inputs t.from → IsRead s t.from t.lag
-item_read s k t h it there = record { source = there; lag = subst (λ (x : Term). x.lag ≤ greatest_lag x.from s.terms) (sym it) (lag_high s.terms k t h) }
+pub item_read : (s : Equations) (k : ℕ) (t : Term) → k < length s.terms → t ≡ get_or s.terms k t →
+    SourceFits s.rows s.inputs t.from → IsRead s t.from t.lag
+item_read s k t h it there =
+    record {
+      source = there;
+      lag =
+          subst (λ (x : Term). x.lag ≤ greatest_lag x.from s.terms) (sym it) (lag_high s.terms k t h);
+    }
 
 -- each term keeps the limits
-pub item_fits : (s : Equations) (k : ℕ) (t : Term) → All (TermFits s.rows s.inputs) s.terms → k < length s.terms → t ≡ get_or s.terms k t → TermFits s.rows s.inputs t
+pub item_fits : (s : Equations) (k : ℕ) (t : Term) → All (TermFits s.rows s.inputs) s.terms →
+    k < length s.terms → t ≡ get_or s.terms k t → TermFits s.rows s.inputs t
 item_fits s k t fits h it = subst (TermFits s.rows s.inputs) (sym it) (fits k t h)
 
 -- ---- what is read is inside the net
 
-pub read_fits : (n at : ℕ) (s : Equations) (i : ℕ) (from : Source) (lag : ℕ) → at + length (expanded s) ≤ n → s.inputs ≤ PORTS → IsRead s from lag → IsThereByThen i from lag → ReadFits n at (row_place s i) (net_read s from lag)
+pub read_fits : (n at : ℕ) (s : Equations) (i : ℕ) (from : Source) (lag : ℕ) → at + length (expanded s) ≤ n →
+    s.inputs ≤ PORTS → IsRead s from lag → IsThereByThen i from lag →
+    ReadFits n at (row_place s i) (net_read s from lag)
 read_fits n at s i (Input j) zero h few r there = let k : j < s.inputs = r.source in omega arith
-read_fits n at s i (Input j) (suc l) h few r there = let k : j < s.inputs = r.source in let m = input_hold_inside s j l k (let high = r.lag in omega arith) in omega arith
+read_fits n at s i (Input j) (suc l) h few r there = let k : j < s.inputs = r.source in let m =
+    input_hold_inside s j l k (let high = r.lag in omega arith) in omega arith
 read_fits n at s i (Row j) zero h few r there = let k : j < i = there refl in omega arith
 read_fits n at s i (Row j) (suc zero) h few r there = let m = row_inside s j r.source in omega arith
-read_fits n at s i (Row j) (suc (suc l)) h few r there = let m = row_hold_inside s j l r.source (let high = r.lag in omega arith) in omega arith
+read_fits n at s i (Row j) (suc (suc l)) h few r there = let m =
+    row_hold_inside s j l r.source (let high = r.lag in omega arith) in omega arith
 
 -- ---- places in the tables of a layout
 
-module _ (s : Equations) (a : List ℕ) (first : ℕ) (b : List ℕ) (places : ArePlaces s a first b) (from : Source) (lag : ℕ) (read : IsRead s from lag) (j : ℕ) where
+module _ (s : Equations) (a : List ℕ) (first : ℕ) (b : List ℕ) (places : ArePlaces s a first b) (from : Source)
+    (lag : ℕ) (read : IsRead s from lag) (j : ℕ) where
   pub input_index : from ≡ Input j → j < s.inputs
   input_index e = rw e at read.source
 
@@ -96,22 +110,30 @@ module _ (s : Equations) (a : List ℕ) (first : ℕ) (b : List ℕ) (places : A
 
 -- those of row i among the terms
 abbrev pub net_terms : Equations → ℕ → List Term → List NetTerm
-net_terms s i ts = map (λ (t : Term). record { coef = t.coef; from = net_read s t.from t.lag }) (filter (λ (t : Term). t.row == i) ts)
+net_terms s i ts = map (λ (t : Term). record { coef = t.coef; from = net_read s t.from t.lag })
+    (filter (λ (t : Term). t.row == i) ts)
 
-pub takes : (s : Equations) (i : ℕ) (t : Term) (ts : List Term) → t.row ≡ i → net_terms s i (t ∷ ts) ≡ record { coef = t.coef; from = net_read s t.from t.lag } ∷ net_terms s i ts
+pub takes : (s : Equations) (i : ℕ) (t : Term) (ts : List Term) → t.row ≡ i →
+    net_terms s i (t ∷ ts) ≡ record { coef = t.coef; from = net_read s t.from t.lag } ∷ net_terms s i ts
 takes s i t ts e = rw (eq-eqb t.row i e) refl
 
-pub passes_over : (s : Equations) (i : ℕ) (t : Term) (ts : List Term) → (t.row ≡ i → ⊥) → net_terms s i (t ∷ ts) ≡ net_terms s i ts
+pub passes_over : (s : Equations) (i : ℕ) (t : Term) (ts : List Term) → (t.row ≡ i → ⊥) →
+    net_terms s i (t ∷ ts) ≡ net_terms s i ts
 passes_over s i t ts ne = rw (ne_eqb t.row i ne) refl
 
 item_first : (ts : List Term) (k : ℕ) (t : Term) → k < length ts → t ≡ get_or ts k t → drop k ts ≡ t ∷ drop (k + 1) ts
 item_first ts k t h it = rw (add-one k) (drop-cons ts k t h ∙ ap (λ (x : Term). x ∷ drop (suc k) ts) (sym it))
 
 -- one more term of the list, of this row or of another
-pub item_taken : (s : Equations) (at r i k : ℕ) (ts : List Term) (t : Term) (net : Net) → k < length ts → t ≡ get_or ts k t → t.row ≡ i →
-    put_terms at r (net_terms s i (drop k ts)) net ≡ put_terms at r (net_terms s i (drop (k + 1) ts)) (put_term at r t.coef (net_read s t.from t.lag) net)
-item_taken s at r i k ts t net h it e = rw (item_first ts k t h it) (ap (λ xs. put_terms at r xs net) (takes s i t (drop (k + 1) ts) e))
+pub item_taken : (s : Equations) (at r i k : ℕ) (ts : List Term) (t : Term) (net : Net) → k < length ts →
+    t ≡ get_or ts k t → t.row ≡ i →
+    put_terms at r (net_terms s i (drop k ts)) net
+    ≡ put_terms at r (net_terms s i (drop (k + 1) ts)) (put_term at r t.coef (net_read s t.from t.lag) net)
+item_taken s at r i k ts t net h it e =
+    rw (item_first ts k t h it) (ap (λ xs. put_terms at r xs net) (takes s i t (drop (k + 1) ts) e))
 
-pub item_passed : (s : Equations) (at r i k : ℕ) (ts : List Term) (t : Term) (net : Net) → k < length ts → t ≡ get_or ts k t → (t.row ≡ i → ⊥) →
+pub item_passed : (s : Equations) (at r i k : ℕ) (ts : List Term) (t : Term) (net : Net) → k < length ts →
+    t ≡ get_or ts k t → (t.row ≡ i → ⊥) →
     put_terms at r (net_terms s i (drop k ts)) net ≡ put_terms at r (net_terms s i (drop (k + 1) ts)) net
-item_passed s at r i k ts t net h it ne = rw (item_first ts k t h it) (ap (λ xs. put_terms at r xs net) (passes_over s i t (drop (k + 1) ts) ne))
+item_passed s at r i k ts t net h it ne =
+    rw (item_first ts k t h it) (ap (λ xs. put_terms at r xs net) (passes_over s i t (drop (k + 1) ts) ne))

@@ -16,8 +16,16 @@ split b top e h = sym (power b e (top - e) top (omega arith))
 
 -- each denominator of a fraction divides it
 pub divides_widest : (d : Den) → DenFits d → den_value d * (widest / den_value d) ≡ widest
-divides_widest (Two e) h = whole_product (Two e) (2 ^ GREATEST_TWO) (10 ^ GREATEST_TEN) (2 ^ (GREATEST_TWO - e), split 2 GREATEST_TWO e h) (10 ^ GREATEST_TEN, omega arith)
-divides_widest (Ten d) h = whole_product (Ten d) (2 ^ GREATEST_TWO) (10 ^ GREATEST_TEN) (2 ^ GREATEST_TWO, omega arith) (10 ^ (GREATEST_TEN - d), split 10 GREATEST_TEN d h)
+divides_widest (Two e) h =
+    whole_product (Two e) (2 ^ GREATEST_TWO) (10 ^ GREATEST_TEN) (
+      2 ^ (GREATEST_TWO - e),
+      split 2 GREATEST_TWO e h,
+    ) (10 ^ GREATEST_TEN, omega arith)
+divides_widest (Ten d) h =
+    whole_product (Ten d) (2 ^ GREATEST_TWO) (10 ^ GREATEST_TEN) (
+      2 ^ GREATEST_TWO,
+      omega arith,
+    ) (10 ^ (GREATEST_TEN - d), split 10 GREATEST_TEN d h)
 
 pub whole_over_widest : (t : Tables) → TablesFit t → IsDenominator (net_of t) widest
 whole_over_widest t fits = record {

@@ -26,8 +26,8 @@ reads net q i now old u =
     +ℤ total net.rows (λ j. over q (net.old i j) *ℤ old j)
     +ℤ total PORTS (λ j. over q (net.input i j) *ℤ u j)
 
--- Rows seen backwards from a last moment, v n i being row i, n moments before it, all over one denominator: each row has
--- what it reads and its perturbation, at all moments, also those before the first.
+-- Rows seen backwards from a last moment, v n i being row i, n moments before it, all over one denominator: each row
+-- has what it reads and its perturbation, at all moments, also those before the first.
 pub record IsBlock (net : Net) (q den : ℕ) (v u perturbations : ℕ → ℕ → ℤ) : Type 0 where
   pub row : (n i : ℕ) → i < net.rows →
       pos q *ℤ v n i ≡ reads net q i (v n) (v (suc n)) (λ j. u n j *ℤ pos den) +ℤ pos q *ℤ perturbations n i
@@ -56,4 +56,5 @@ BoundsAreRaised =
 
 -- and what bounds an input at each moment bounds it before
 abbrev pub BoundsHoldBefore : Type 0
-BoundsHoldBefore = (u : ℕ → ℕ → ℤ) (k n j bound : ℕ) → ((h : ℕ) → unsigned_abs (u h j) ≤ bound) → unsigned_abs (lagged u k n j) ≤ bound
+BoundsHoldBefore = (u : ℕ → ℕ → ℤ) (k n j bound : ℕ) → ((h : ℕ) → unsigned_abs (u h j) ≤ bound) →
+    unsigned_abs (lagged u k n j) ≤ bound

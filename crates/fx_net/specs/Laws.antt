@@ -19,7 +19,8 @@ use Rattle.fx_net.specs.Run.{IsDenominator, IsRun, net_value, row_sum}
 
 -- they stand there
 abbrev pub RowsStand : Type 0
-RowsStand = (rows : List (List NetTerm)) (at : ℕ) (net : Net) → at + length rows ≤ net.rows → HoldsRows (put_rows rows at net) at rows
+RowsStand = (rows : List (List NetTerm)) (at : ℕ) (net : Net) → at + length rows ≤ net.rows →
+    HoldsRows (put_rows rows at net) at rows
 
 -- so many rows from a place on lie before or behind so many others
 abbrev pub AreApart : ℕ → ℕ → ℕ → ℕ → Type 0
@@ -28,7 +29,8 @@ AreApart place count at others = (place + count ≤ at) ⊎ (at + others ≤ pla
 -- all other rows stay as they were
 abbrev pub OtherRowsStay : Type 0
 OtherRowsStay =
-    (rows : List (List NetTerm)) (at i : ℕ) (net : Net) → AreApart i 1 at (length rows) → IsSameRow i net (put_rows rows at net)
+    (rows : List (List NetTerm)) (at i : ℕ) (net : Net) → AreApart i 1 at (length rows) →
+    IsSameRow i net (put_rows rows at net)
 
 -- so other rows still stand where they stood
 abbrev pub OtherRowsStillStand : Type 0
@@ -59,7 +61,8 @@ NewNetsAreDivided = (n q : ℕ) → 0 < q → IsDenominator (empty_net n) q
 -- a denominator of a net and of rows is one of the net with these rows put
 abbrev pub PutRowsAreDivided : Type 0
 PutRowsAreDivided =
-    (rows : List (List NetTerm)) (at q : ℕ) (net : Net) → IsDenominator net q → DividesRows q rows → IsDenominator (put_rows rows at net) q
+    (rows : List (List NetTerm)) (at q : ℕ) (net : Net) → IsDenominator net q → DividesRows q rows →
+    IsDenominator (put_rows rows at net) q
 
 -- a denominator of all terms of equations is one of their expanded rows
 abbrev pub ExpandedRowsAreDivided : Type 0
@@ -80,7 +83,8 @@ pub record HasExactValues (eqs : Equations) (g : ℕ) (net : Net) (q at : ℕ) (
   pub row_holds : (k j l : ℕ) → j < eqs.rows → l < greatest_lag (Row j) eqs.terms - 1 →
       SameValue (net_value net q z k (at + (row_hold_place eqs j + l))) (earlier (λ m. row_value eqs g u m j) k (suc l))
 
--- a net that holds the expanded rows has the exact values, where these rows have just what they read; its other rows are free
+-- a net that holds the expanded rows has the exact values, where these rows have just what they read; its other rows
+-- are free
 abbrev pub ExactInNet : Type 0
 ExactInNet =
     (eqs : Equations) (net : Net) (at q g : ℕ) (u z : ℕ → ℕ → ℤ) → EquationsFit eqs →

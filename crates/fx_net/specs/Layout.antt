@@ -16,7 +16,8 @@ read_of (NowRow j) = Now j
 read_of (OldRow j) = Old j
 read_of (Input j) = In j
 
--- the first row that holds each input, the first row of the equations, and the first that holds each row; all in few rows
+-- the first row that holds each input, the first row of the equations, and the first that holds each row; all in few
+-- rows
 pub record ArePlaces (s : Equations) (holds_input : List ℕ) (first : ℕ) (holds_row : List ℕ) : Type 0 where
   pub inputs : (j : ℕ) → j < s.inputs → slice_index_or holds_input j 0 ≡ input_hold_place s j
   pub equations : first ≡ row_place s 0

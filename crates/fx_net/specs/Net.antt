@@ -6,7 +6,8 @@ use Rattle.fx_mat.specs.Entries.{no_entries, put, IsZeroOutside}
 pub use Rattle.fx_cross.specs.Table.{plain}
 use Rattle.fx_net.specs.declared.limits.TheConstants.{LARGEST_NET, GREATEST_CLASS}
 
--- coefficients by row and source, zero outside; and the class of each row: how many half steps its perturbation may have
+-- coefficients by row and source, zero outside; and the class of each row: how many half steps its perturbation may
+-- have
 pub record Net : Type 0 where
   pub rows : ℕ
   pub now : ℕ → ℕ → Fraction

@@ -1,5 +1,6 @@
 -- Rows of terms in a net.
-use Rattle.std.specs.Prelude.{◌≡◌, ℕ, ◌+◌, ◌-◌, ◌<◌, ◌≤◌, ◌==◌, ◌&&◌, Bool, false, nat_lt, nat_le, cond, List, [], ◌∷◌, length, slice_index_or}
+use Rattle.std.specs.Prelude.{◌≡◌, ℕ, ◌+◌, ◌-◌, ◌<◌, ◌≤◌, ◌==◌, ◌&&◌, Bool, false, nat_lt, nat_le, cond, List}
+use Rattle.std.specs.Prelude.{[], ◌∷◌, length, slice_index_or}
 use Rattle.fx_nums.specs.Fraction.{Fraction, zero_fraction}
 use Rattle.fx_eqs.specs.declared.limits.TheConstants.{PORTS}
 use Rattle.fx_eqs.specs.Expanded.{NetRead, NetTerm}
@@ -44,7 +45,8 @@ is_within at count i = nat_le at i && nat_lt i (at + count)
 
 -- one table with the coefficients of these rows in their place
 abbrev pub put_table : (ℕ → NetRead → Bool) → List (List NetTerm) → ℕ → (ℕ → ℕ → Fraction) → ℕ → ℕ → Fraction
-put_table reads rows at entries i j = cond (is_within at (length rows) i) (coefficient (reads j) (row_of rows (i - at))) (entries i j)
+put_table reads rows at entries i j =
+    cond (is_within at (length rows) i) (coefficient (reads j) (row_of rows (i - at))) (entries i j)
 
 -- the net with these rows from a place on, each of class 0; the other rows stay
 unfoldable pub put_rows : List (List NetTerm) → ℕ → Net → Net
@@ -74,8 +76,10 @@ pub record IsSameRow (i : ℕ) (a b : Net) : Type 0 where
 pub record HoldsRows (net : Net) (at : ℕ) (rows : List (List NetTerm)) : Type 0 where
   pub inside : at + length rows ≤ net.rows
   pub now : (r j : ℕ) → r < length rows → j < at + r → net.now (at + r) j ≡ coefficient (reads_now at j) (row_of rows r)
-  pub old : (r j : ℕ) → r < length rows → j < net.rows → net.old (at + r) j ≡ coefficient (reads_old at j) (row_of rows r)
-  pub input : (r j : ℕ) → r < length rows → j < PORTS → net.input (at + r) j ≡ coefficient (reads_input j) (row_of rows r)
+  pub old : (r j : ℕ) → r < length rows → j < net.rows →
+      net.old (at + r) j ≡ coefficient (reads_old at j) (row_of rows r)
+  pub input : (r j : ℕ) → r < length rows → j < PORTS →
+      net.input (at + r) j ≡ coefficient (reads_input j) (row_of rows r)
 
 -- ---- one term after another
 

@@ -22,7 +22,8 @@ row_time net k i = k * net.rows + i
 abbrev pub net_value : Net → ℕ → (ℕ → ℕ → ℤ) → ℕ → ℕ → Ratio
 net_value net q z k i = record { num = z k i; den = q ^ (row_time net k i + 1) }
 
--- u k j is the word of input j. What row i reads at moment k, over q ^ (its row time + 1), of the values of this moment and of the one before.
+-- u k j is the word of input j. What row i reads at moment k, over q ^ (its row time + 1), of the values of this moment
+-- and of the one before.
 abbrev pub row_reads : Net → ℕ → (ℕ → ℕ → ℤ) → ℕ → ℕ → (ℕ → ℤ) → (ℕ → ℤ) → ℤ
 row_reads net q u k i now old =
     total i (λ j. over q (net.now i j) *ℤ now j *ℤ pos (q ^ (i - j - 1)))

@@ -19,7 +19,14 @@ unfoldable pub number_at : List ℕ → ℕ → ℕ
 number_at xs i = slice_index_or xs i 0
 
 abbrev pub net_of : Tables → Net
-net_of t = record { rows = t.size; now = entry_at t.now_table; old = entry_at t.old_table; input = entry_at t.input_table; class = number_at t.classes }
+net_of t = record {
+  rows = t.size;
+  now = entry_at t.now_table;
+  old = entry_at t.old_table;
+  input =
+      entry_at t.input_table;
+  class = number_at t.classes;
+}
 
 -- so many rows and columns, and room for all entries
 abbrev pub HoldsAll : Table → ℕ → ℕ → Type 0

@@ -43,7 +43,9 @@ impl<const N: usize> Net<N> {
     fn put_equation(&mut self, layout: &Layout, at: usize, i: usize)
         requires row { i < layout.now.eqs.now.rows }
         requires inside { at + length (expanded layout.now.eqs.now) ≤ N }
-        ensures { net_of self.new ≡ put_terms at (row_place layout.now.eqs.now i) (equation_row layout.now.eqs.now i) (net_of self.old) }
+        ensures { net_of self.new
+            ≡ put_terms at (row_place layout.now.eqs.now i) (equation_row layout.now.eqs.now i)
+            (net_of self.old) }
     {
         let terms = layout.eqs.terms();
         for term in terms {
@@ -57,7 +59,8 @@ impl<const N: usize> Net<N> {
     // The rows that hold inputs.
     fn put_input_holds(&mut self, layout: &Layout, at: usize)
         requires inside { at + length (expanded layout.now.eqs.now) ≤ N }
-        ensures { net_of self.new ≡ put_each at 0 (input_holds layout.now.eqs.now layout.now.eqs.now.inputs) (net_of self.old) }
+        ensures { net_of self.new
+            ≡ put_each at 0 (input_holds layout.now.eqs.now layout.now.eqs.now.inputs) (net_of self.old) }
     {
         for j in 0..layout.eqs.inputs() {
             let count = layout.eqs.greatest_lag(Source::In(j as u8));
@@ -68,7 +71,9 @@ impl<const N: usize> Net<N> {
     // The rows of the equations.
     fn put_equations(&mut self, layout: &Layout, at: usize)
         requires inside { at + length (expanded layout.now.eqs.now) ≤ N }
-        ensures { net_of self.new ≡ put_each at (row_place layout.now.eqs.now 0) (equations layout.now.eqs.now layout.now.eqs.now.rows) (net_of self.old) }
+        ensures { net_of self.new
+            ≡ put_each at (row_place layout.now.eqs.now 0)
+            (equations layout.now.eqs.now layout.now.eqs.now.rows) (net_of self.old) }
     {
         for i in 0..layout.eqs.rows() {
             self.put_equation(layout, at, i);
@@ -78,7 +83,9 @@ impl<const N: usize> Net<N> {
     // The rows that hold rows.
     fn put_row_holds(&mut self, layout: &Layout, at: usize)
         requires inside { at + length (expanded layout.now.eqs.now) ≤ N }
-        ensures { net_of self.new ≡ put_each at (row_place layout.now.eqs.now layout.now.eqs.now.rows) (row_holds layout.now.eqs.now layout.now.eqs.now.rows) (net_of self.old) }
+        ensures { net_of self.new
+            ≡ put_each at (row_place layout.now.eqs.now layout.now.eqs.now.rows)
+            (row_holds layout.now.eqs.now layout.now.eqs.now.rows) (net_of self.old) }
     {
         for j in 0..layout.eqs.rows() {
             let count = layout

@@ -24,8 +24,8 @@ pub enum Which {
     In,
 }
 
-/// N rows, each with coefficients of earlier rows of the same moment, of rows of the moment before and of `PORTS` inputs,
-/// and with a class: how many half steps its perturbation may have. N is 1 to `LARGEST_NET`.
+/// N rows, each with coefficients of earlier rows of the same moment, of rows of the moment before and of `PORTS`
+/// inputs, and with a class: how many half steps its perturbation may have. N is 1 to `LARGEST_NET`.
 #[derive(Drop)]
 pub struct Net<const N: usize> {
     now_table: Cross,
@@ -69,8 +69,8 @@ impl<const N: usize> Net<N> {
         self.classes.fill(0);
     }
 
-    /// Sets what row `i`, below N, takes of row `j`, below `i`, of the same moment. A coefficient of value 0 is kept as 0
-    /// over 10^0.
+    /// Sets what row `i`, below N, takes of row `j`, below `i`, of the same moment. A coefficient of value 0 is kept as
+    /// 0 over 10^0.
     pub fn set_now(&mut self, i: usize, j: usize, c: Frac)
         requires row { i < N }
         requires source { j < i }
@@ -173,8 +173,8 @@ pub fn nets_fit<const N: usize>(net: &Net<N>)
     let _ = &net.classes;
 }
 
-/// A law with nothing to run: 2^62 * 10^28 is a denominator of each net, since each coefficient is a fraction over a power
-/// of two up to 2^62 or of ten up to 10^28.
+/// A law with nothing to run: 2^62 * 10^28 is a denominator of each net, since each coefficient is a fraction over a
+/// power of two up to 2^62 or of ten up to 10^28.
 pub fn nets_have_a_denominator<const N: usize>(net: &Net<N>)
     ensures { IsDenominator (net_of net.now) widest }
 {

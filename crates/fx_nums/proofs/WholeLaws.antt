@@ -1,5 +1,7 @@
 -- A number is read exactly where its decimal stands.
-use Rattle.std.proofs.Common.{◌≡◌, ◌≤◌, ◌<◌, ◌+◌, ◌-◌, ◌*◌, ◌/◌, ◌%◌, ◌^◌, ◌==◌, ◌&&◌, ◌∙◌, ℕ, Bool, true, false, not, cond, List, [], ◌∷◌, ◌++◌, decimal, Option, Some, None, refl, sym, ap, append_assoc, arith, inl, inr}
+use Rattle.std.proofs.Common.{◌≡◌, ◌≤◌, ◌<◌, ◌+◌, ◌-◌, ◌*◌, ◌/◌, ◌%◌, ◌^◌, ◌==◌, ◌&&◌, ◌∙◌, ℕ, Bool, true}
+use Rattle.std.proofs.Common.{false, not, cond, List, [], ◌∷◌, ◌++◌, decimal, Option, Some, None, refl, sym, ap}
+use Rattle.std.proofs.Common.{append_assoc, arith, inl, inr}
 use Rattle.std.proofs.lemmas.Bool.{cases_Bool, and_parts, leb-true, le-leb, ltb-true, lt-ltb}
 use Rattle.std.proofs.lemmas.Bool.Decides.{nat_tests}
 use Rattle.std.proofs.lemmas.Fmt.{decimal_digit, decimal_step_wide, decimal_by_steps_wide}
@@ -19,7 +21,8 @@ not_both false b h = refl
 -- ---- what is read stands there
 
 -- one more digit
-decimal_more : (c v : ℕ) → 48 ≤ c → c ≤ 57 → 0 < v → 10 * v + (c - 48) < 10 ^ 64 → decimal (10 * v + (c - 48)) ≡ decimal v ++ c ∷ []
+decimal_more : (c v : ℕ) → 48 ≤ c → c ≤ 57 → 0 < v → 10 * v + (c - 48) < 10 ^ 64 →
+    decimal (10 * v + (c - 48)) ≡ decimal v ++ c ∷ []
 decimal_more c v low top pos wide =
     let w : ℕ = 10 * v + (c - 48) in
     let front : w / 10 ≡ v = omega arith in
@@ -32,7 +35,8 @@ record ReadsOn (limit v : ℕ) (text : List ℕ) (n : ℕ) (rest : List ℕ) : T
   below : n < limit
   no_digit : begins_with_digit rest ≡ false
 
-reads_on : (limit v : ℕ) (text : List ℕ) (n : ℕ) (rest : List ℕ) → limit ≤ 2 ^ 128 → 0 < v → v < limit → digits_from limit v text ≡ Some (n, rest) → ReadsOn limit v text n rest
+reads_on : (limit v : ℕ) (text : List ℕ) (n : ℕ) (rest : List ℕ) → limit ≤ 2 ^ 128 → 0 < v → v < limit →
+    digits_from limit v text ≡ Some (n, rest) → ReadsOn limit v text n rest
 unfolding digits_from
 reads_on limit v [] n rest wide pos fits e =
     let (number, nothing) = some_pair_parts v n [] rest e in
@@ -63,7 +67,9 @@ unfolding digits_from
 stops limit v [] h = refl
 stops limit v (c ∷ cs) h = rw h refl
 
-front_stands : (limit c : ℕ) (cs : List ℕ) (n : ℕ) (rest : List ℕ) → limit ≤ 2 ^ 128 → begins_number (c ∷ cs) ≡ true → digits_from limit 0 (c ∷ cs) ≡ Some (n, rest) → IsWholeAndRest limit (c ∷ cs) n rest
+front_stands : (limit c : ℕ) (cs : List ℕ) (n : ℕ) (rest : List ℕ) → limit ≤ 2 ^ 128 →
+    begins_number (c ∷ cs) ≡ true → digits_from limit 0 (c ∷ cs) ≡ Some (n, rest) →
+    IsWholeAndRest limit (c ∷ cs) n rest
 unfolding digits_from
 front_stands limit c cs n rest wide begins e =
     let (digit, plain) = and_parts (is_ascii_digit c) (not (c == 48 && begins_with_digit cs)) begins in
@@ -71,7 +77,10 @@ front_stands limit c cs n rest wide begins e =
     let above : 48 ≤ c = leb-true 48 c low in
     let within : c ≤ 57 = leb-true c 57 top in
     let is : 10 * 0 + (c - 48) ≡ c - 48 = omega arith in
-    let (less, on) = only_true (nat_lt (c - 48) limit) (digits_from limit (c - 48) cs) (n, rest) (rw (digit, is) at e) in
+    let (less, on) = only_true (nat_lt (c - 48) limit) (digits_from limit (c - 48) cs) (
+      n,
+      rest,
+    ) (rw (digit, is) at e) in
     let small : c - 48 < limit = ltb-true (c - 48) limit less in
     let back : 48 + (c - 48) ≡ c = omega arith in
     let one : decimal (c - 48) ≡ c ∷ [] = decimal_digit (c - 48) (omega arith) ∙ ap (λ (x : ℕ). x ∷ []) back in
@@ -79,18 +88,29 @@ front_stands limit c cs n rest wide begins e =
       | inl zero_first ↦
           let no_more : begins_with_digit cs ≡ false = not_true (begins_with_digit cs) (rw zero_first at plain) in
           let (number, same) = some_pair_parts (c - 48) n cs rest (sym (stops limit (c - 48) cs no_more) ∙ on) in
-          record { stands = rw (← number, ← same, one) refl; below = rw (← number) small; no_digit = rw (← same) no_more }
+          record {
+            stands = rw (← number, ← same, one) refl;
+            below = rw (← number) small;
+            no_digit =
+                rw (← same) no_more;
+          }
       | inr other ↦
           let far : 48 < c = grind (arith, nat_tests) in
           let more = reads_on limit (c - 48) cs n rest wide (omega arith) small on in
-          record { stands = ap (λ (t : List ℕ). t ++ cs) (sym one) ∙ more.stands; below = more.below; no_digit = more.no_digit }
+          record {
+            stands = ap (λ (t : List ℕ). t ++ cs) (sym one) ∙ more.stands;
+            below =
+                more.below;
+            no_digit = more.no_digit;
+          }
     ]
   where
     not_true : (b : Bool) → not b ≡ true → b ≡ false
     not_true true h = absurd cc
     not_true false h = refl
 
-pub stands_there : (limit : ℕ) (text : List ℕ) (n : ℕ) (rest : List ℕ) → limit ≤ 2 ^ 128 → whole_in limit text ≡ Some (n, rest) → IsWholeAndRest limit text n rest
+pub stands_there : (limit : ℕ) (text : List ℕ) (n : ℕ) (rest : List ℕ) → limit ≤ 2 ^ 128 →
+    whole_in limit text ≡ Some (n, rest) → IsWholeAndRest limit text n rest
 unfolding whole_in
 stands_there limit [] n rest wide e = absurd cc
 stands_there limit (c ∷ cs) n rest wide e =
@@ -98,7 +118,8 @@ stands_there limit (c ∷ cs) n rest wide e =
     front_stands limit c cs n rest wide begins on
 
 -- the reader's number is below the limit
-pub read_below : (limit : ℕ) (text : List ℕ) (n : ℕ) (rest : List ℕ) → limit ≤ 2 ^ 128 → begins_number text ≡ true → Some (n, rest) ≡ digits_from limit 0 text → n < limit
+pub read_below : (limit : ℕ) (text : List ℕ) (n : ℕ) (rest : List ℕ) → limit ≤ 2 ^ 128 →
+    begins_number text ≡ true → Some (n, rest) ≡ digits_from limit 0 text → n < limit
 unfolding whole_in
 read_below limit text n rest wide begins e =
     let whole : whole_in limit text ≡ Some (n, rest) = rw begins (sym e) in
@@ -106,7 +127,8 @@ read_below limit text n rest wide begins e =
 
 -- ---- what stands there is read
 
-takes_digit : (limit v c w : ℕ) (rest : List ℕ) → 48 ≤ c → c ≤ 57 → 10 * v + (c - 48) ≡ w → w < limit → digits_from limit v (c ∷ rest) ≡ digits_from limit w rest
+takes_digit : (limit v c w : ℕ) (rest : List ℕ) → 48 ≤ c → c ≤ 57 → 10 * v + (c - 48) ≡ w → w < limit →
+    digits_from limit v (c ∷ rest) ≡ digits_from limit w rest
 unfolding digits_from
 takes_digit limit v c w rest low top is fits = rw (le-leb 48 c low, le-leb c 57 top, is, lt-ltb w limit fits) refl
 
@@ -142,8 +164,10 @@ record Begins (n : ℕ) (ds : List ℕ) : Type 0 where
 digit_leads : (m : ℕ) → 0 < m → m < 10 → leads ((48 + m) ∷ []) ≡ true
 digit_leads m pos one = grind (arith, nat_tests)
 
-digit_begins : (m : ℕ) (rest : List ℕ) → m < 10 → begins_with_digit rest ≡ false → begins_number ((48 + m) ∷ rest) ≡ true
-digit_begins m rest one h = rw (le-leb 48 (48 + m) (omega arith), le-leb (48 + m) 57 (omega arith), h) (no_both (48 + m == 48))
+digit_begins : (m : ℕ) (rest : List ℕ) → m < 10 → begins_with_digit rest ≡ false →
+    begins_number ((48 + m) ∷ rest) ≡ true
+digit_begins m rest one h =
+    rw (le-leb 48 (48 + m) (omega arith), le-leb (48 + m) 57 (omega arith), h) (no_both (48 + m == 48))
   where
     no_both : (b : Bool) → not (b && false) ≡ true
     no_both true = refl
@@ -154,15 +178,24 @@ decimal_begins = decimal_by_steps_wide Begins
     (λ m one. record { leads = λ pos. digit_leads m pos one; begins = λ rest h. digit_begins m rest one h })
     (λ m ds ten before.
     let longer = leads-append ds ((48 + m % 10) ∷ []) (before.leads (omega arith)) in
-    record { leads = λ pos. longer; begins = λ rest h. leads_begins ((ds ++ (48 + m % 10) ∷ []) ++ rest) (leads-append (ds ++ (48 + m % 10) ∷ []) rest longer) })
+    record {
+      leads = λ pos. longer;
+      begins =
+          λ rest h. leads_begins ((ds ++ (48 + m % 10) ∷ []) ++ rest)
+          (leads-append (ds ++ (48 + m % 10) ∷ []) rest longer);
+    })
 
 -- a decimal is read, to where no digit follows
-pub whole_in-decimal : (limit n : ℕ) (rest : List ℕ) → limit ≤ 2 ^ 128 → n < limit → begins_with_digit rest ≡ false → whole_in limit (decimal n ++ rest) ≡ Some (n, rest)
+pub whole_in-decimal : (limit n : ℕ) (rest : List ℕ) → limit ≤ 2 ^ 128 → n < limit →
+    begins_with_digit rest ≡ false → whole_in limit (decimal n ++ rest) ≡ Some (n, rest)
 unfolding whole_in
 whole_in-decimal limit n rest wide fits h =
     let begins = (decimal_begins n (omega arith)).begins rest h in
     rw begins (takes_decimal limit n (omega arith) rest fits ∙ stops limit n rest h)
 
 pub whole_law : WholeLaw
-whole_law limit text n rest wide =
-    (stands_there limit text n rest wide, λ h. ap (whole_in limit) h.stands ∙ whole_in-decimal limit n rest wide h.below h.no_digit)
+whole_law limit text n rest wide = (
+  stands_there limit text n rest wide,
+  λ h. ap (whole_in limit) h.stands
+      ∙ whole_in-decimal limit n rest wide h.below h.no_digit,
+)

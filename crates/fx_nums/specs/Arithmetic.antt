@@ -1,11 +1,13 @@
 -- Products and quotients of intervals, with ends rounded outward.
-use Rattle.std.specs.Prelude.{◌≡◌, ℕ, suc, ◌^◌, ◌≤◌, Bool, false, ◌&&◌, int_le, ℤ, pos, negsuc, neg_ℤ, ◌-ℤ◌, ◌*ℤ◌, ◌≤ℤ◌, ◌+◌, ◌*◌, ◌<◌, unsigned_abs}
+use Rattle.std.specs.Prelude.{◌≡◌, ℕ, suc, ◌^◌, ◌≤◌, Bool, false, ◌&&◌, int_le, ℤ, pos, negsuc, neg_ℤ, ◌-ℤ◌}
+use Rattle.std.specs.Prelude.{◌*ℤ◌, ◌≤ℤ◌, ◌+◌, ◌*◌, ◌<◌, unsigned_abs}
 use Rattle.std.specs.Int.{int_min, int_max}
 use Rattle.fx_math.specs.Division.{floor_div, ceil_div}
 use Rattle.fx_nums.specs.Fraction.{Fraction}
 use Rattle.fx_nums.specs.Interval.{Interval, IntervalFits}
 use Rattle.fx_nums.specs.Products.{floor_mul, ceil_mul, product_down, product_up, widened_low, widened_high}
-use Rattle.fx_nums.specs.declared.limits.TheConstants.{INTERVAL_BITS, SUMMAND_BITS, OPERAND_BITS, VALUE_BITS, DROPPED_BITS}
+use Rattle.fx_nums.specs.declared.limits.TheConstants.{INTERVAL_BITS, SUMMAND_BITS, OPERAND_BITS, VALUE_BITS}
+use Rattle.fx_nums.specs.declared.limits.TheConstants.{DROPPED_BITS}
 
 -- the product of a number with a fraction
 abbrev pub multiple : ℤ → Fraction → Interval
@@ -13,7 +15,11 @@ multiple p c = record { lo = floor_mul p c; hi = ceil_mul p c }
 
 -- the products with a fraction
 abbrev pub scaled : Interval → Fraction → Interval
-scaled i c = record { lo = int_min (floor_mul i.lo c) (floor_mul i.hi c); hi = int_max (ceil_mul i.lo c) (ceil_mul i.hi c) }
+scaled i c = record {
+  lo = int_min (floor_mul i.lo c) (floor_mul i.hi c);
+  hi =
+      int_max (ceil_mul i.lo c) (ceil_mul i.hi c);
+}
 
 -- low and high are the ends of the products of the numbers from lo to hi with num / den
 pub record IsScaled (lo hi num : ℤ) (den : ℕ) (low high : ℤ) : Type 0 where
@@ -22,8 +28,11 @@ pub record IsScaled (lo hi num : ℤ) (den : ℕ) (low high : ℤ) : Type 0 wher
   pub ordered : low ≤ℤ high
   pub low_in : unsigned_abs low ≤ 2 ^ SUMMAND_BITS
   pub high_in : unsigned_abs high ≤ 2 ^ SUMMAND_BITS
-  pub encloses : (a : ℤ) (b : ℕ) → (lo *ℤ pos b) ≤ℤ a → a ≤ℤ (hi *ℤ pos b) → ((low *ℤ pos (b * den)) ≤ℤ (a *ℤ num)) × ((a *ℤ num) ≤ℤ (high *ℤ pos (b * den)))
-  pub scales : (b : ℕ) → unsigned_abs lo ≤ b * 2 ^ DROPPED_BITS → unsigned_abs hi ≤ b * 2 ^ DROPPED_BITS → (unsigned_abs low ≤ b * 2 ^ (VALUE_BITS + DROPPED_BITS)) × (unsigned_abs high ≤ b * 2 ^ (VALUE_BITS + DROPPED_BITS))
+  pub encloses : (a : ℤ) (b : ℕ) → (lo *ℤ pos b) ≤ℤ a → a ≤ℤ (hi *ℤ pos b) →
+      ((low *ℤ pos (b * den)) ≤ℤ (a *ℤ num)) × ((a *ℤ num) ≤ℤ (high *ℤ pos (b * den)))
+  pub scales : (b : ℕ) → unsigned_abs lo ≤ b * 2 ^ DROPPED_BITS → unsigned_abs hi ≤ b * 2 ^ DROPPED_BITS →
+      (unsigned_abs low ≤ b * 2 ^ (VALUE_BITS + DROPPED_BITS))
+      × (unsigned_abs high ≤ b * 2 ^ (VALUE_BITS + DROPPED_BITS))
 
 -- an interval with ends at the scale 2 ^ -32
 abbrev pub widened : Interval → Interval

@@ -1,5 +1,6 @@
 -- Fractions over a power of two or of ten.
-use Rattle.std.specs.Prelude.{◌≡◌, ℕ, ℤ, pos, neg_ℤ, ◌*ℤ◌, ◌*◌, ◌/◌, ◌^◌, ◌<◌, ◌≤◌, ◌==◌, ◌&&◌, Bool, int_lt, unsigned_abs}
+use Rattle.std.specs.Prelude.{◌≡◌, ℕ, ℤ, pos, neg_ℤ, ◌*ℤ◌, ◌*◌, ◌/◌, ◌^◌, ◌<◌, ◌≤◌, ◌==◌, ◌&&◌, Bool, int_lt}
+use Rattle.std.specs.Prelude.{unsigned_abs}
 use Rattle.fx_nums.specs.declared.fraction.Den.{Den}
 use Rattle.fx_nums.specs.declared.fraction.Den.TheVariants.{Two, Ten}
 use Rattle.fx_nums.specs.declared.limits.TheConstants.{NUMERATOR_BITS, VALUE_BITS, GREATEST_TWO, GREATEST_TEN}

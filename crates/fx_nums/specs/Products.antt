@@ -1,9 +1,11 @@
 -- Products of a whole number with a fraction, rounded down and up, where no product reaches 2 ^ 126.
-use Rattle.std.specs.Prelude.{◌≡◌, ◌<ℤ◌, ◌≤◌, ℕ, ◌+◌, ◌*◌, ◌^◌, ◌<◌, Bool, nat_lt, if◌then◌else◌, ℤ, pos, ◌*ℤ◌, ◌+ℤ◌, ◌≤ℤ◌, unsigned_abs}
+use Rattle.std.specs.Prelude.{◌≡◌, ◌<ℤ◌, ◌≤◌, ℕ, ◌+◌, ◌*◌, ◌^◌, ◌<◌, Bool, nat_lt, if◌then◌else◌, ℤ, pos, ◌*ℤ◌}
+use Rattle.std.specs.Prelude.{◌+ℤ◌, ◌≤ℤ◌, unsigned_abs}
 use Rattle.std.specs.Int.{int_min, int_max}
 use Rattle.fx_math.specs.Division.{floor_div, ceil_div}
 use Rattle.fx_nums.specs.Fraction.{Fraction, den_value}
-use Rattle.fx_nums.specs.declared.limits.TheConstants.{NUMERATOR_BITS, VALUE_BITS, SUMMAND_BITS, FACTOR_BITS, PRODUCT_BITS, DROPPED_BITS, APART_BITS}
+use Rattle.fx_nums.specs.declared.limits.TheConstants.{NUMERATOR_BITS, VALUE_BITS, SUMMAND_BITS, FACTOR_BITS}
+use Rattle.fx_nums.specs.declared.limits.TheConstants.{PRODUCT_BITS, DROPPED_BITS, APART_BITS}
 
 -- the product stands in one number
 abbrev pub is_exact : ℤ → ℤ → Bool
@@ -59,5 +61,7 @@ pub record IsRoundedProduct (p num : ℤ) (den : ℕ) (low high : ℤ) : Type 0 
   pub below : (low *ℤ pos den) ≤ℤ (p *ℤ num)
   pub above : (p *ℤ num) ≤ℤ (high *ℤ pos den)
   pub near : high <ℤ (low +ℤ pos (2 ^ APART_BITS))
-  pub low_scales : (b : ℕ) → unsigned_abs p ≤ b * 2 ^ DROPPED_BITS → unsigned_abs low ≤ b * 2 ^ (VALUE_BITS + DROPPED_BITS)
-  pub high_scales : (b : ℕ) → unsigned_abs p ≤ b * 2 ^ DROPPED_BITS → unsigned_abs high ≤ b * 2 ^ (VALUE_BITS + DROPPED_BITS)
+  pub low_scales : (b : ℕ) → unsigned_abs p ≤ b * 2 ^ DROPPED_BITS →
+      unsigned_abs low ≤ b * 2 ^ (VALUE_BITS + DROPPED_BITS)
+  pub high_scales : (b : ℕ) → unsigned_abs p ≤ b * 2 ^ DROPPED_BITS →
+      unsigned_abs high ≤ b * 2 ^ (VALUE_BITS + DROPPED_BITS)

@@ -1,5 +1,6 @@
 -- Whole numbers at the front of a text.
-use Rattle.std.specs.Prelude.{◌≡◌, ◌↔◌, ◌≤◌, ◌<◌, ◌^◌, ℕ, ◌+◌, ◌*◌, ◌-◌, ◌==◌, ◌&&◌, Bool, false, not, nat_lt, if◌then◌else◌, List, [], ◌∷◌, ◌++◌, Option, Some, None}
+use Rattle.std.specs.Prelude.{◌≡◌, ◌↔◌, ◌≤◌, ◌<◌, ◌^◌, ℕ, ◌+◌, ◌*◌, ◌-◌, ◌==◌, ◌&&◌, Bool, false, not, nat_lt}
+use Rattle.std.specs.Prelude.{if◌then◌else◌, List, [], ◌∷◌, ◌++◌, Option, Some, None}
 use Rattle.std.specs.Char.{is_ascii_digit}
 use Rattle.std.specs.Fmt.{decimal}
 
@@ -16,7 +17,9 @@ begins_number (c ∷ cs) = is_ascii_digit c && not (c == 48 && begins_with_digit
 unfoldable pub digits_from : ℕ → ℕ → List ℕ → Option (ℕ × List ℕ)
 digits_from limit v [] = Some (v, [])
 digits_from limit v (c ∷ cs) =
-    if is_ascii_digit c then (if nat_lt (10 * v + (c - 48)) limit then digits_from limit (10 * v + (c - 48)) cs else None) else Some (v, c ∷ cs)
+    if is_ascii_digit c then
+    (if nat_lt (10 * v + (c - 48)) limit then digits_from limit (10 * v + (c - 48)) cs else None) else Some
+    (v, c ∷ cs)
 
 -- the number below the limit that stands at the front, and what follows its last digit
 unfoldable pub whole_in : ℕ → List ℕ → Option (ℕ × List ℕ)
@@ -30,4 +33,5 @@ pub record IsWholeAndRest (limit : ℕ) (text : List ℕ) (n : ℕ) (rest : List
 
 -- a number is read exactly where its decimal stands
 abbrev pub WholeLaw : Type 0
-WholeLaw = (limit : ℕ) (text : List ℕ) (n : ℕ) (rest : List ℕ) → limit ≤ 2 ^ 128 → (whole_in limit text ≡ Some (n, rest)) ↔ IsWholeAndRest limit text n rest
+WholeLaw = (limit : ℕ) (text : List ℕ) (n : ℕ) (rest : List ℕ) → limit ≤ 2 ^ 128 →
+    (whole_in limit text ≡ Some (n, rest)) ↔ IsWholeAndRest limit text n rest

@@ -2,7 +2,15 @@
 
 ghost use Rattle.std.specs.Prelude.{◌≡◌, ◌≢◌, ◌^◌, ◌<◌, ◌≤◌, ◌-◌, pos, ◌*ℤ◌, unsigned_abs};
 ghost use Rattle.fx_math.specs.Division.{floor_div};
-ghost use Rattle.fx_nums.specs.Arithmetic.{IsProduct, IsQuotient, IsScaled, greatest_of, least_of, quotient_down, quotient_up};
+ghost use Rattle.fx_nums.specs.Arithmetic.{
+  IsProduct,
+  IsQuotient,
+  IsScaled,
+  greatest_of,
+  least_of,
+  quotient_down,
+  quotient_up,
+};
 ghost use Rattle.fx_nums.specs.Fraction.{den_value};
 ghost use Rattle.fx_nums.specs.Products.{widened_low, widened_high};
 

@@ -1,5 +1,14 @@
 ghost use Rattle.std.specs.Prelude.{◌≡◌, ◌↔◌, ◌^◌, ◌<◌, ◌≤◌, SomeIff, IsTrue};
-ghost use Rattle.fx_nums.specs.Fraction.{den_value, DenFits, FractionFits, is_one, is_zero, minus, one_fraction, zero_fraction};
+ghost use Rattle.fx_nums.specs.Fraction.{
+  den_value,
+  DenFits,
+  FractionFits,
+  is_one,
+  is_zero,
+  minus,
+  one_fraction,
+  zero_fraction,
+};
 
 use crate::limits::{GREATEST_TEN, GREATEST_TWO, NUMERATOR_BITS, VALUE_BITS};
 use std::marker::Model;

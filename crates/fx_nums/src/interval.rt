@@ -1,7 +1,42 @@
-ghost use Rattle.std.specs.Prelude.{◌≡◌, ◌↔◌, ℕ, ◌^◌, ◌<◌, ◌≤◌, IsTrue, false, IfSome, SomeIff, pos, ◌+◌, ◌-◌, ◌*◌, ◌+ℤ◌, ◌*ℤ◌, ◌≤ℤ◌, unsigned_abs};
+ghost use Rattle.std.specs.Prelude.{
+  ◌≡◌,
+  ◌↔◌,
+  ℕ,
+  ◌^◌,
+  ◌<◌,
+  ◌≤◌,
+  IsTrue,
+  false,
+  IfSome,
+  SomeIff,
+  pos,
+  ◌+◌,
+  ◌-◌,
+  ◌*◌,
+  ◌+ℤ◌,
+  ◌*ℤ◌,
+  ◌≤ℤ◌,
+  unsigned_abs,
+};
 ghost use Rattle.fx_math.specs.Division.{floor_div, ceil_div};
 ghost use Rattle.fx_math.specs.Ratio.{Ratio};
-ghost use Rattle.fx_nums.specs.Arithmetic.{IsLeastMagnitude, IsScaled, IsWithin, QuotientFits, divided, from_ends, has_zero, hull, multiple, quotient_down, quotient_up, scaled, times, widened, width};
+ghost use Rattle.fx_nums.specs.Arithmetic.{
+  IsLeastMagnitude,
+  IsScaled,
+  IsWithin,
+  QuotientFits,
+  divided,
+  from_ends,
+  has_zero,
+  hull,
+  multiple,
+  quotient_down,
+  quotient_up,
+  scaled,
+  times,
+  widened,
+  width,
+};
 ghost use Rattle.fx_nums.specs.Enclosing.{Encloses, product, value_of};
 ghost use Rattle.fx_nums.specs.Fraction.{den_value};
 ghost use Rattle.fx_nums.specs.Products.{IsRoundedProduct, widened_low, widened_high};
@@ -195,7 +230,8 @@ impl Iv {
         requires { IntervalFits self FACTOR_BITS }
         ensures ends { result ≡ scaled self c }
         ensures small { IsWithin (2 ^ SUMMAND_BITS) result }
-        ensures scales { (b : ℕ) → IsWithin (b * 2 ^ DROPPED_BITS) self → IsWithin (b * 2 ^ (VALUE_BITS + DROPPED_BITS)) result }
+        ensures scales { (b : ℕ) → IsWithin (b * 2 ^ DROPPED_BITS) self →
+            IsWithin (b * 2 ^ (VALUE_BITS + DROPPED_BITS)) result }
         ensures encloses { (x : Ratio) → Encloses self x → Encloses result (product x (value_of c)) }
     {
         let (lo, hi) = scaled_ends(self.lo, self.hi, c);
@@ -248,7 +284,8 @@ impl Iv {
         requires left { IntervalFits self OPERAND_BITS }
         requires right { IntervalFits o OPERAND_BITS }
         ensures ends { SomeIff result (IntervalFits (times self o) OPERAND_BITS) (times self o) }
-        ensures encloses { IfSome result (λ v. (x y : Ratio) → Encloses self x → Encloses o y → Encloses v (product x y)) }
+        ensures encloses { IfSome result (λ v. (x y : Ratio) → Encloses self x → Encloses o y →
+            Encloses v (product x y)) }
     {
         let product = self.widened().whole_product(o.widened());
         if product.fits(OPERAND_BITS) {
@@ -266,7 +303,8 @@ impl Iv {
         requires left { IntervalFits self OPERAND_BITS }
         requires right { IntervalFits o OPERAND_BITS }
         ensures ends { SomeIff result (QuotientFits self o) (divided self o) }
-        ensures encloses { IfSome result (λ v. (q y : Ratio) → 0 < y.den → Encloses o y → Encloses self (product q y) → Encloses v q) }
+        ensures encloses { IfSome result (λ v. (q y : Ratio) → 0 < y.den → Encloses o y →
+            Encloses self (product q y) → Encloses v q) }
     {
         let divisor = o.widened();
         if divisor.has_zero() {

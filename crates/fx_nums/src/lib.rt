@@ -1,4 +1,5 @@
-//! Exact fractions over powers of two and of ten, intervals that enclose real numbers, and plain whole numbers in texts.
+//! Exact fractions over powers of two and of ten, intervals that enclose real numbers, and plain whole numbers in
+//! texts.
 //!
 //! A fraction is below 2^24 in magnitude. An interval has its ends at the scale 2^-64, as whole numbers below 2^120 in
 //! magnitude.

@@ -1,9 +1,36 @@
 //! Products of a whole number with a fraction, rounded down and up, without a division.
 
-ghost use Rattle.std.specs.Prelude.{◌≡◌, ◌+◌, ◌*◌, ◌^◌, ◌<◌, ◌≤◌, pos, ◌*ℤ◌, ◌+ℤ◌, ◌<ℤ◌, ◌≤ℤ◌, unsigned_abs, false, true};
+ghost use Rattle.std.specs.Prelude.{
+  ◌≡◌,
+  ◌+◌,
+  ◌*◌,
+  ◌^◌,
+  ◌<◌,
+  ◌≤◌,
+  pos,
+  ◌*ℤ◌,
+  ◌+ℤ◌,
+  ◌<ℤ◌,
+  ◌≤ℤ◌,
+  unsigned_abs,
+  false,
+  true,
+};
 ghost use Rattle.fx_math.specs.Division.{floor_div, ceil_div};
 ghost use Rattle.fx_nums.specs.Fraction.{den_value, DenFits};
-ghost use Rattle.fx_nums.specs.Products.{is_exact, widened_low, widened_high, lesser_product, greater_product, product_down, product_up, floor_mul, ceil_mul, IsOperands, IsRoundedProduct};
+ghost use Rattle.fx_nums.specs.Products.{
+  is_exact,
+  widened_low,
+  widened_high,
+  lesser_product,
+  greater_product,
+  product_down,
+  product_up,
+  floor_mul,
+  ceil_mul,
+  IsOperands,
+  IsRoundedProduct,
+};
 
 use crate::fraction::{Den, Frac};
 use crate::limits::{

@@ -1,5 +1,6 @@
 -- Rounding to the nearest whole number, and odd parts.
-use Rattle.std.proofs.Common.{◌≡◌, ℕ, zero, suc, ◌+◌, ◌-◌, ◌*◌, ◌/◌, ◌%◌, ◌^◌, ◌<◌, ◌≤◌, refl, arith, sym, ap, ◌∙◌, ◌≢◌, ◌||◌, false, lit<, unsigned_abs, nat_le}
+use Rattle.std.proofs.Common.{◌≡◌, ℕ, zero, suc, ◌+◌, ◌-◌, ◌*◌, ◌/◌, ◌%◌, ◌^◌, ◌<◌, ◌≤◌, refl, arith, sym, ap}
+use Rattle.std.proofs.Common.{◌∙◌, ◌≢◌, ◌||◌, false, lit<, unsigned_abs, nat_le}
 use Rattle.std.proofs.Math.IntN.{ℤ, pos, negsuc, ◌+ℤ◌, ◌-ℤ◌, ◌*ℤ◌}
 use Rattle.std.proofs.Math.Nat.{pow-le-pow_right, mul-le-mul_left, mul-le-mul_right, pow-suc}
 use Rattle.std.proofs.lemmas.Bool.{or_parts}
@@ -23,7 +24,8 @@ use Rattle.fx_quant.specs.declared.scaled.Scaled.{Scaled}
 shift_is : (z : ℤ) (k : ℕ) → unsigned_abs (z *ℤ pos (2 ^ k)) ≡ unsigned_abs z * 2 ^ k
 shift_is z k = unsigned_abs-mul z (pos (2 ^ k))
 
-shifted_below : (z : ℤ) (k m bound most : ℕ) → unsigned_abs z < bound → k ≤ m → bound * 2 ^ m ≤ most → unsigned_abs (z *ℤ pos (2 ^ k)) < most
+shifted_below : (z : ℤ) (k m bound most : ℕ) → unsigned_abs z < bound → k ≤ m → bound * 2 ^ m ≤ most →
+    unsigned_abs (z *ℤ pos (2 ^ k)) < most
 shifted_below z k m bound most h l e =
     let power : 2 ^ k ≤ 2 ^ m = pow-le-pow_right (lit< tt) l in
     let some : 0 < 2 ^ k = pow_pos k in
@@ -40,15 +42,18 @@ doubled_small z k h l = shifted_below z (k + 1) 41 (2 ^ 62) (2 ^ 103) h (omega a
 pub doubled_fits : (z : ℤ) (k : ℕ) → unsigned_abs z < 2 ^ 62 → k ≤ 40 → unsigned_abs (z *ℤ pos (2 ^ (k + 1))) < 2 ^ 127
 doubled_fits z k h l = shifted_below z (k + 1) 41 (2 ^ 62) (2 ^ 127) h (omega arith) (omega arith)
 
-pub doubled_bound : (z : ℤ) (k den : ℕ) → unsigned_abs z < 2 ^ 24 * den → k ≤ 40 → unsigned_abs (z *ℤ pos (2 ^ (k + 1))) ≤ 2 ^ 65 * den
+pub doubled_bound : (z : ℤ) (k den : ℕ) → unsigned_abs z < 2 ^ 24 * den → k ≤ 40 →
+    unsigned_abs (z *ℤ pos (2 ^ (k + 1))) ≤ 2 ^ 65 * den
 doubled_bound z k den h l =
     let below = shifted_below z (k + 1) 41 (2 ^ 24 * den) (2 ^ 24 * den * 2 ^ 41) h (omega arith) (omega arith) in
     omega (arith, below)
 
-pub doubled_within : (y z : ℤ) (k den : ℕ) → y ≡ z *ℤ pos (2 ^ (k + 1)) → unsigned_abs z < 2 ^ 24 * den → k ≤ 40 → unsigned_abs y ≤ 2 ^ 65 * den
+pub doubled_within : (y z : ℤ) (k den : ℕ) → y ≡ z *ℤ pos (2 ^ (k + 1)) → unsigned_abs z < 2 ^ 24 * den →
+    k ≤ 40 → unsigned_abs y ≤ 2 ^ 65 * den
 doubled_within y z k den e h l = rw e (doubled_bound z k den h l)
 
-pub raised_small : (z y : ℤ) (den : ℕ) → y ≡ z +ℤ pos den → unsigned_abs z ≤ 2 ^ 65 * den → unsigned_abs y ≤ (2 ^ 65 - 1) * (2 * den)
+pub raised_small : (z y : ℤ) (den : ℕ) → y ≡ z +ℤ pos den → unsigned_abs z ≤ 2 ^ 65 * den →
+    unsigned_abs y ≤ (2 ^ 65 - 1) * (2 * den)
 raised_small z y den e h = omega (arith, ints, e, h)
 
 -- the odd part is no greater than the number
@@ -56,14 +61,16 @@ pub odd_small : (c : ℤ) (k : ℕ) → unsigned_abs c < 2 ^ 65 → unsigned_abs
 odd_small c k h =
     let some : 0 < 2 ^ k = pow_pos k in
     let more : unsigned_abs c * 1 ≤ unsigned_abs c * 2 ^ k = mul-le-mul_left (unsigned_abs c) some in
-    let within : unsigned_abs (floor_div c (2 ^ k)) ≤ unsigned_abs c = floor_bound c (2 ^ k) (unsigned_abs c) some (omega (arith, more)) in
+    let within : unsigned_abs (floor_div c (2 ^ k)) ≤ unsigned_abs c =
+    floor_bound c (2 ^ k) (unsigned_abs c) some (omega (arith, more)) in
     omega (arith, within, h)
 
 pub narrow_small : (shift : ℕ) (k : Scaled) → is_wide shift k ≡ false → unsigned_abs k.odd < 2 ^ 62
 narrow_small shift k e =
     let below : unsigned_abs (product_of shift k) < 2 ^ 62 = not_le (2 ^ 62) _ (or_parts _ _ e).0 in
     let some : 0 < 2 ^ left_of shift k = pow_pos (left_of shift k) in
-    let more : unsigned_abs k.odd * 1 ≤ unsigned_abs k.odd * 2 ^ left_of shift k = mul-le-mul_left (unsigned_abs k.odd) some in
+    let more : unsigned_abs k.odd * 1 ≤ unsigned_abs k.odd * 2 ^ left_of shift k =
+    mul-le-mul_left (unsigned_abs k.odd) some in
     omega (arith, below, more, shift_is k.odd (left_of shift k))
 
 -- ---- zeros
@@ -83,8 +90,13 @@ unfolding rounded
 to_nearest fraction c h =
     let next : fraction + 1 ≡ suc fraction = omega arith in
     let twice : 2 ^ (fraction + 1) ≡ 2 ^ fraction * 2 = ap (λ k. 2 ^ k) next ∙ pow-suc 2 fraction in
-    let p = floor_parts (c.num *ℤ pos (2 ^ (fraction + 1)) +ℤ pos (den_value c.den)) (2 * den_value c.den) (omega (arith, h)) in
-    parts c.num (floor_div (c.num *ℤ pos (2 ^ (fraction + 1)) +ℤ pos (den_value c.den)) (2 * den_value c.den)) (2 ^ fraction) (2 ^ (fraction + 1)) (den_value c.den) twice p
+    let p = floor_parts (c.num *ℤ pos (2 ^ (fraction + 1)) +ℤ pos (den_value c.den)) (2 * den_value c.den)
+    (omega (arith, h)) in
+    parts c.num (floor_div (c.num *ℤ pos (2 ^ (fraction + 1)) +ℤ pos (den_value c.den)) (2 * den_value c.den))
+    (2 ^ fraction) (2 ^ (fraction + 1)) (den_value c.den) twice p
   where
-    parts : (num q : ℤ) (s t den : ℕ) → t ≡ s * 2 → (up q * (2 * den) + down (num *ℤ pos t +ℤ pos den) ≤ down q * (2 * den) + up (num *ℤ pos t +ℤ pos den)) × (down q * (2 * den) + up (num *ℤ pos t +ℤ pos den) < up q * (2 * den) + down (num *ℤ pos t +ℤ pos den) + 2 * den) → 2 * unsigned_abs (q *ℤ pos den -ℤ num *ℤ pos s) ≤ den
+    parts : (num q : ℤ) (s t den : ℕ) → t ≡ s * 2 →
+        (up q * (2 * den) + down (num *ℤ pos t +ℤ pos den) ≤ down q * (2 * den) + up (num *ℤ pos t +ℤ pos den))
+        × (down q * (2 * den) + up (num *ℤ pos t +ℤ pos den) < up q * (2 * den) + down (num *ℤ pos t +ℤ pos den)
+        + 2 * den) → 2 * unsigned_abs (q *ℤ pos den -ℤ num *ℤ pos s) ≤ den
     parts num q s t den e p = omega (arith, ints, ap (λ x. num *ℤ pos x) e, p)

@@ -5,4 +5,6 @@ use Rattle.fx_quant.specs.Rounding.{rounded}
 
 -- a rounded coefficient is off by at most half of its last place
 abbrev pub RoundsToNearest : Type 0
-RoundsToNearest = (fraction : ℕ) (c : Fraction) → 0 < den_value c.den → 2 * unsigned_abs (rounded fraction c *ℤ pos (den_value c.den) -ℤ c.num *ℤ pos (2 ^ fraction)) ≤ den_value c.den
+RoundsToNearest = (fraction : ℕ) (c : Fraction) → 0 < den_value c.den →
+    2 * unsigned_abs (rounded fraction c *ℤ pos (den_value c.den) -ℤ c.num *ℤ pos (2 ^ fraction)) ≤ den_value
+    c.den

@@ -16,7 +16,12 @@ guarded input_low guard = input_low -ℤ pos guard
 
 -- rows with guards, one for each, and behind them so many rows that are put out, where the formats say
 abbrev pub grid : Formats → List ℕ → ℕ → ℕ → Grid
-grid f guards outputs fraction = record { input_low = f.input_low; lows = map (guarded f.input_low) guards ++ take outputs f.lows; fraction = fraction }
+grid f guards outputs fraction =
+    record {
+      input_low = f.input_low;
+      lows = map (guarded f.input_low) guards ++ take outputs f.lows;
+      fraction = fraction;
+    }
 
 -- of row i
 abbrev pub row_low : Grid → ℕ → ℤ

@@ -1,5 +1,6 @@
 -- An implicit form as integer rows.
-use Rattle.std.specs.Prelude.{ℕ, ◌+◌, ◌≤◌, Bool, true, false, ◌≡◌, IsTrue, List, length, replicate, All, ℤ, pos, neg_ℤ, ◌-ℤ◌, ◌≤ℤ◌, unsigned_abs, take, ◌<◌, Result, Ok}
+use Rattle.std.specs.Prelude.{ℕ, ◌+◌, ◌≤◌, Bool, true, false, ◌≡◌, IsTrue, List, length, replicate, All, ℤ, pos}
+use Rattle.std.specs.Prelude.{neg_ℤ, ◌-ℤ◌, ◌≤ℤ◌, unsigned_abs, take, ◌<◌, Result, Ok}
 use Rattle.fx_math.specs.Faults.{◌>>=◌}
 use Rattle.fx_math.specs.Words.{is_accumulator}
 use Rattle.fx_code.specs.Code.{BareRow}
@@ -15,11 +16,13 @@ use Rattle.fx_quant.specs.Rows.{kept_terms, quantised_row, first_rows}
 use Rattle.fx_quant.specs.declared.fault.QuantFault.{QuantFault}
 use Rattle.fx_quant.specs.declared.fault.QuantFault.TheVariants.{NoMemory}
 use Rattle.fx_quant.specs.declared.formats.Formats.{Formats}
-use Rattle.fx_quant.specs.declared.formats.TheConstants.{LEAST_LOW, GREATEST_LOW, LARGEST_GUARD, LEAST_FRACTION, GREATEST_FRACTION, LOWS_APART}
+use Rattle.fx_quant.specs.declared.formats.TheConstants.{LEAST_LOW, GREATEST_LOW, LARGEST_GUARD, LEAST_FRACTION}
+use Rattle.fx_quant.specs.declared.formats.TheConstants.{GREATEST_FRACTION, LOWS_APART}
 
 -- the rows of a net that has the form's, on a grid, or the first fault
 abbrev pub net_rows : ℕ → Grid → Net → ℕ → ℕ → Result (List BareRow) QuantFault
-net_rows accumulator g net count inputs = first_rows (λ i. quantised_row accumulator i (kept_terms g net count inputs i)) count
+net_rows accumulator g net count inputs =
+    first_rows (λ i. quantised_row accumulator i (kept_terms g net count inputs i)) count
 
 -- a net that has the form's rows first
 abbrev pub form_net : Implicit → Net

@@ -1,5 +1,8 @@
--- The quantised rows of a net: each coefficient as an odd number, shifted to the left, over 2 to the power of the right shift of its row.
-use Rattle.std.specs.Prelude.{◌≡◌, All, length, false, ◌<◌, ◌≤◌, ℕ, zero, suc, ◌+◌, ◌-◌, ◌^◌, max, nat_lt, nat_le, ◌==◌, ◌||◌, Bool, cond, ℤ, pos, ◌+ℤ◌, ◌-ℤ◌, ◌*ℤ◌, unsigned_abs, List, [], ◌∷◌, ◌++◌, map, Option, Some, None, Result, Ok, Err}
+-- The quantised rows of a net: each coefficient as an odd number, shifted to the left, over 2 to the power of the right
+-- shift of its row.
+use Rattle.std.specs.Prelude.{◌≡◌, All, length, false, ◌<◌, ◌≤◌, ℕ, zero, suc, ◌+◌, ◌-◌, ◌^◌, max, nat_lt}
+use Rattle.std.specs.Prelude.{nat_le, ◌==◌, ◌||◌, Bool, cond, ℤ, pos, ◌+ℤ◌, ◌-ℤ◌, ◌*ℤ◌, unsigned_abs, List, []}
+use Rattle.std.specs.Prelude.{◌∷◌, ◌++◌, map, Option, Some, None, Result, Ok, Err}
 use Rattle.std.specs.Int.{int_max}
 use Rattle.std.specs.List.{list_any}
 use Rattle.fx_math.specs.Faults.{fault_if, ◌>>=◌}
@@ -23,10 +26,15 @@ use Rattle.fx_quant.specs.declared.scaled.Scaled.{Scaled}
 
 -- ---- one term
 
--- the rounded coefficient c, from a source into row i: in units of the row's last place, a step of the source counts the odd part over 2 to
--- the power of the places
+-- the rounded coefficient c, from a source into row i: in units of the row's last place, a step of the source counts
+-- the odd part over 2 to the power of the places
 abbrev pub scaled : Grid → ℕ → Read → ℤ → Scaled
-scaled g i from c = record { odd = odd_part c; places = (pos g.fraction -ℤ pos (zeros c)) +ℤ (row_low g i -ℤ source_low g from); from = from }
+scaled g i from c = record {
+  odd = odd_part c;
+  places =
+      (pos g.fraction -ℤ pos (zeros c)) +ℤ (row_low g i -ℤ source_low g from);
+  from = from;
+}
 
 -- a coefficient that is rounded to 0 is dropped
 abbrev pub kept_or_dropped : Grid → ℕ → Read → ℤ → List Scaled
@@ -48,7 +56,8 @@ kept_of g net i which count = joined count (λ j. kept g i (read which j) (coeff
 
 -- of row i: first from the rows before it in this moment, then from all rows in the moment before, then from the inputs
 abbrev pub kept_terms : Grid → Net → ℕ → ℕ → ℕ → List Scaled
-kept_terms g net rows inputs i = kept_of g net i NowTable i ++ kept_of g net i OldTable rows ++ kept_of g net i InTable inputs
+kept_terms g net rows inputs i =
+    kept_of g net i NowTable i ++ kept_of g net i OldTable rows ++ kept_of g net i InTable inputs
 
 -- ---- its shifts
 
@@ -79,7 +88,8 @@ IsSmall k = unsigned_abs k.odd < 2 ^ ROUNDED_BITS
 
 -- the right shift or some left shift is too long
 abbrev pub shifts_far : ℕ → ℕ → List Scaled → Bool
-shifts_far accumulator shift ks = nat_lt LONGEST_SHIFT shift || nat_le accumulator shift || list_any (λ (k : Scaled). nat_lt LONGEST_SHIFT (left_of shift k)) ks
+shifts_far accumulator shift ks = nat_lt LONGEST_SHIFT shift || nat_le accumulator shift
+    || list_any (λ (k : Scaled). nat_lt LONGEST_SHIFT (left_of shift k)) ks
 
 -- the odd part shifted to the left
 abbrev pub product_of : ℕ → Scaled → ℤ
@@ -87,7 +97,8 @@ product_of shift k = k.odd *ℤ pos (2 ^ left_of shift k)
 
 -- it is too large
 abbrev pub is_wide : ℕ → Scaled → Bool
-is_wide shift k = nat_le (2 ^ COEFFICIENT_BITS) (unsigned_abs (product_of shift k)) || nat_le (2 ^ (PRODUCT_BITS + shift)) (unsigned_abs (product_of shift k))
+is_wide shift k = nat_le (2 ^ COEFFICIENT_BITS) (unsigned_abs (product_of shift k))
+    || nat_le (2 ^ (PRODUCT_BITS + shift)) (unsigned_abs (product_of shift k))
 
 -- added to a list: these terms, small ones to small ones, at most so many
 pub record Adds (before after added : List Scaled) (most : ℕ) : Type 0 where
@@ -105,10 +116,12 @@ IsNarrow shift k = is_wide shift k ≡ false
 -- the first such term, the first of these having this place in its row
 abbrev pub wide_fault : ℕ → ℕ → ℕ → List Scaled → Option QuantFault
 wide_fault i shift place [] = None
-wide_fault i shift place (k ∷ ks) = fault_if (is_wide shift k) (Wide i place (product_of shift k)) (wide_fault i shift (place + 1) ks)
+wide_fault i shift place (k ∷ ks) =
+    fault_if (is_wide shift k) (Wide i place (product_of shift k)) (wide_fault i shift (place + 1) ks)
 
 abbrev pub row_fault : ℕ → ℕ → List Scaled → Option QuantFault
-row_fault accumulator i ks = fault_if (shifts_far accumulator (shift_of ks) ks) (ShiftRange i) (wide_fault i (shift_of ks) 0 ks)
+row_fault accumulator i ks =
+    fault_if (shifts_far accumulator (shift_of ks) ks) (ShiftRange i) (wide_fault i (shift_of ks) 0 ks)
 
 -- ---- the rows
 

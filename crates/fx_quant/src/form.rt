@@ -5,7 +5,16 @@ ghost use Rattle.fx_math.specs.Answers.{Gives};
 ghost use Rattle.fx_net.specs.Tables.{net_of};
 ghost use Rattle.fx_quant.specs.Inside.{grid_of, row_of, rows_of};
 ghost use Rattle.fx_quant.specs.Positions.{grid, guarded};
-ghost use Rattle.fx_quant.specs.Quantised.{FormatsFit, FractionFits, IsGuard, LowFits, equal_guards, is_memory, net_rows, quantised};
+ghost use Rattle.fx_quant.specs.Quantised.{
+  FormatsFit,
+  FractionFits,
+  IsGuard,
+  LowFits,
+  equal_guards,
+  is_memory,
+  net_rows,
+  quantised,
+};
 ghost use Rattle.fx_quant.specs.Rows.{kept_terms, quantised_row};
 
 use crate::design::{Design, DesignRow};
@@ -88,7 +97,8 @@ fn design_row(
     requires row { i < rows }
     requires rows { rows ≤ FORM_ROWS }
     requires inputs { inputs ≤ PORTS }
-    ensures { Gives is_memory row_of result (quantised_row accumulator i (kept_terms (grid_of places.now) (net_of net.now) rows inputs i)) }
+    ensures { Gives is_memory row_of result
+        (quantised_row accumulator i (kept_terms (grid_of places.now) (net_of net.now) rows inputs i)) }
 {
     let terms = row::kept_terms(alloc, net, places, rows, inputs, i)?;
     row::quantised_row(alloc, accumulator, i as u8, &terms)
@@ -156,7 +166,8 @@ pub fn quantise_rows(
     })
 }
 
-/// The integer rows of a form, with the same guard for each intermediate variable and each state, as by `quantise_rows`.
+/// The integer rows of a form, with the same guard for each intermediate variable and each state, as by
+/// `quantise_rows`.
 ///
 /// Its error is the first fault, row by row, and `NoMemory` only where there is none.
 pub fn quantise(

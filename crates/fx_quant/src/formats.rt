@@ -6,8 +6,8 @@ ghost use Rattle.std.specs.Prelude.{◌≡◌, pos, negsuc};
 pub struct Formats {
     /// That of all inputs: `LEAST_LOW` to `GREATEST_LOW`.
     pub input_low: i8,
-    /// That of each output: `LEAST_LOW` to `GREATEST_LOW`, at most `LOWS_APART` away from that of the inputs. Those past
-    /// the outputs are not read.
+    /// That of each output: `LEAST_LOW` to `GREATEST_LOW`, at most `LOWS_APART` away from that of the inputs. Those
+    /// past the outputs are not read.
     pub lows: [i8; 4],
     /// 16, 32 or 64.
     pub accumulator: u8,

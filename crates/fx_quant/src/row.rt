@@ -1,13 +1,43 @@
 //! One row: its terms, its right shift and its first fault.
 
-ghost use Rattle.std.specs.Prelude.{◌≡◌, ◌<◌, ◌≤◌, ◌^◌, ◌+◌, ◌++◌, length, map, nat_lt, unsigned_abs, false, OnOk, IfOk, All};
+ghost use Rattle.std.specs.Prelude.{
+  ◌≡◌,
+  ◌<◌,
+  ◌≤◌,
+  ◌^◌,
+  ◌+◌,
+  ◌++◌,
+  length,
+  map,
+  nat_lt,
+  unsigned_abs,
+  false,
+  OnOk,
+  IfOk,
+  All,
+};
 ghost use Rattle.std.specs.List.{list_any};
 ghost use Rattle.fx_math.specs.Answers.{Gives};
 ghost use Rattle.fx_net.specs.Links.{coefficients, source_count};
 ghost use Rattle.fx_net.specs.Tables.{net_of};
 ghost use Rattle.fx_quant.specs.Inside.{grid_of, row_of};
 ghost use Rattle.fx_quant.specs.Quantised.{is_memory};
-ghost use Rattle.fx_quant.specs.Rows.{Adds, IsNarrow, IsSmall, StaysNear, code_term, kept, kept_of, kept_terms, left_of, quantised_row, read, shift_of, shifts_far, wide_fault};
+ghost use Rattle.fx_quant.specs.Rows.{
+  Adds,
+  IsNarrow,
+  IsSmall,
+  StaysNear,
+  code_term,
+  kept,
+  kept_of,
+  kept_terms,
+  left_of,
+  quantised_row,
+  read,
+  shift_of,
+  shifts_far,
+  wide_fault,
+};
 
 use crate::design::DesignRow;
 use crate::fault::QuantFault;
@@ -77,7 +107,8 @@ fn add_terms(
     requires fraction { places.now.fraction ≤ GREATEST_FRACTION }
     requires row { i < FORM_ROWS }
     requires sources { count ≤ source_count FORM_ROWS which }
-    ensures { OnOk result (Adds terms.old.items terms.new.items (kept_of (grid_of places.now) (net_of net.now) i which count) count) }
+    ensures { OnOk result (Adds terms.old.items terms.new.items
+        (kept_of (grid_of places.now) (net_of net.now) i which count) count) }
 {
     for j in 0..count {
         let coefficient = coefficient(net, which, i, j);

@@ -1,6 +1,23 @@
 //! Coefficients of a row: rounded, and brought from the low position of their source to that of the row.
 
-ghost use Rattle.std.specs.Prelude.{◌≡◌, ◌<◌, ◌≤◌, ◌^◌, ◌+◌, ◌*◌, ◌-◌, ◌*ℤ◌, ◌+ℤ◌, ◌-ℤ◌, ◌≢◌, length, unsigned_abs, pos, slice_index_or, false};
+ghost use Rattle.std.specs.Prelude.{
+  ◌≡◌,
+  ◌<◌,
+  ◌≤◌,
+  ◌^◌,
+  ◌+◌,
+  ◌*◌,
+  ◌-◌,
+  ◌*ℤ◌,
+  ◌+ℤ◌,
+  ◌-ℤ◌,
+  ◌≢◌,
+  length,
+  unsigned_abs,
+  pos,
+  slice_index_or,
+  false,
+};
 ghost use Rattle.fx_math.specs.Division.{floor_div};
 ghost use Rattle.fx_nums.specs.Fraction.{den_value};
 ghost use Rattle.fx_quant.specs.Inside.{grid_of};

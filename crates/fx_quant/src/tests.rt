@@ -36,7 +36,12 @@ fn sizes() -> Sizes
 }
 
 fn formats(accumulator: u8) -> Formats
-    ensures { result ≡ record { input_low = pos 0; lows = pos 0 ∷ pos 0 ∷ pos 0 ∷ pos 0 ∷ []; accumulator = accumulator } }
+    ensures { result ≡ record {
+      input_low = pos 0;
+      lows = pos 0 ∷ pos 0 ∷ pos 0 ∷ pos 0 ∷ [];
+      accumulator =
+          accumulator;
+    } }
 {
     Formats {
         input_low: 0,

@@ -1,8 +1,11 @@
 -- The blocks, read from the entries and in the net.
-use Rattle.std.proofs.Common.{◌≡◌, ℕ, ◌+◌, ◌-◌, ◌<◌, ◌⊎◌, inl, inr, Bool, true, false, cond, ◌&&◌, eqb, ltb, nat_le, nat_lt, List, [], ◌∷◌, map, filter, length, All, refl, arith, sym, ap, ap₂, ◌∙◌}
+use Rattle.std.proofs.Common.{◌≡◌, ℕ, ◌+◌, ◌-◌, ◌<◌, ◌⊎◌, inl, inr, Bool, true, false, cond, ◌&&◌, eqb, ltb}
+use Rattle.std.proofs.Common.{nat_le, nat_lt, List, [], ◌∷◌, map, filter, length, All, refl, arith, sym, ap}
+use Rattle.std.proofs.Common.{ap₂, ◌∙◌}
 use Rattle.std.specs.List.{IsDistinct}
 use mathlib.Core.Path.{fun_ext}
-use Rattle.std.proofs.lemmas.Bool.{eq-eqb, ne_eqb, and_left, and_right, and_from, cond-true, cond-false, cases_eq, lt-ltb, le-leb, ltb-true, true≢false}
+use Rattle.std.proofs.lemmas.Bool.{eq-eqb, ne_eqb, and_left, and_right, and_from, cond-true, cond-false}
+use Rattle.std.proofs.lemmas.Bool.{cases_eq, lt-ltb, le-leb, ltb-true, true≢false}
 use Rattle.std.proofs.lemmas.List.Elements.{All-head, All-tail}
 use Rattle.std.proofs.lemmas.Map.Keys.{IsDistinct-tail}
 use Rattle.fx_nums.specs.Fraction.{Fraction, one_fraction, zero_fraction}

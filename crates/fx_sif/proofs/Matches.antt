@@ -1,5 +1,6 @@
 -- When an entry stands in a place, by its row and what it reads.
-use Rattle.std.proofs.Common.{◌≡◌, ℕ, zero, suc, ◌+◌, ◌<◌, ◌⊎◌, inl, inr, Bool, true, false, ◌&&◌, eqb, refl, arith, sym, ap, ap₂, ◌∙◌}
+use Rattle.std.proofs.Common.{◌≡◌, ℕ, zero, suc, ◌+◌, ◌<◌, ◌⊎◌, inl, inr, Bool, true, false, ◌&&◌, eqb, refl}
+use Rattle.std.proofs.Common.{arith, sym, ap, ap₂, ◌∙◌}
 use Rattle.std.proofs.lemmas.Bool.{and_from, and_parts, eq-eqb, ne_eqb, cases_eq, eqb-true}
 use Rattle.fx_eqs.specs.Expanded.{NetRead}
 use Rattle.fx_eqs.specs.Expanded.NetRead.{Now, Old, In}

@@ -1,7 +1,10 @@
 -- Entries that are put one after another make the rows of the form.
-use Rattle.std.proofs.Common.{◌≡◌, ℕ, zero, suc, ◌+◌, ◌-◌, ◌<◌, ◌≤◌, ◌⊎◌, inl, inr, Bool, true, false, cond, ◌&&◌, eqb, List, [], ◌∷◌, ◌++◌, map, filter, length, All, get_or, refl, arith, sym, ap, ◌∙◌, length-append}
+use Rattle.std.proofs.Common.{◌≡◌, ℕ, zero, suc, ◌+◌, ◌-◌, ◌<◌, ◌≤◌, ◌⊎◌, inl, inr, Bool, true, false, cond}
+use Rattle.std.proofs.Common.{◌&&◌, eqb, List, [], ◌∷◌, ◌++◌, map, filter, length, All, get_or, refl, arith}
+use Rattle.std.proofs.Common.{sym, ap, ◌∙◌, length-append}
 use mathlib.Core.Path.{fun_ext}
-use Rattle.std.proofs.lemmas.Bool.{eq-eqb, ne_eqb, and_left, and_right, and_from, cond-true, cond-false, cases_lt, cases_eq, lt-ltb, le-leb, le-ltb, lt-leb}
+use Rattle.std.proofs.lemmas.Bool.{eq-eqb, ne_eqb, and_left, and_right, and_from, cond-true, cond-false}
+use Rattle.std.proofs.lemmas.Bool.{cases_lt, cases_eq, lt-ltb, le-leb, le-ltb, lt-leb}
 use Rattle.std.proofs.lemmas.List.Elements.{All-head, All-tail}
 use Rattle.std.proofs.lemmas.List.{get_or_append_left}
 use Rattle.std.proofs.Math.Seq.{get_or-append_seam}
@@ -10,11 +13,13 @@ use Rattle.fx_nums.specs.Fraction.{Fraction, zero_fraction}
 use Rattle.fx_eqs.specs.Expanded.{NetRead, NetTerm}
 use Rattle.fx_eqs.specs.Expanded.NetRead.{Now, Old, In}
 use Rattle.fx_net.specs.Net.{Net, plain}
-use Rattle.fx_net.specs.Rows.{reads_now, reads_old, reads_input, coefficient_or, coefficient, row_of, is_within, put_table, put_rows, put_term, AreEmpty}
+use Rattle.fx_net.specs.Rows.{reads_now, reads_old, reads_input, coefficient_or, coefficient, row_of, is_within}
+use Rattle.fx_net.specs.Rows.{put_table, put_rows, put_term, AreEmpty}
 use Rattle.fx_sif.specs.Blocks.{height}
 use Rattle.fx_sif.specs.Fits.{EntryFits}
 use Rattle.fx_sif.specs.Implicit.{Implicit, rows}
-use Rattle.fx_sif.specs.Rows.{row_place, net_read, on_the_right, is_read, term_of, is_in_row, net_row, rows_of, put_entry, put_entries}
+use Rattle.fx_sif.specs.Rows.{row_place, net_read, on_the_right, is_read, term_of, is_in_row, net_row, rows_of}
+use Rattle.fx_sif.specs.Rows.{put_entry, put_entries}
 use Rattle.fx_sif.specs.declared.parts.Block.{Block}
 use Rattle.fx_sif.specs.declared.parts.Block.TheVariants.{J, K, L, M, N, P, Q, R, S}
 use Rattle.fx_sif.specs.declared.parts.Entry.{Entry}

@@ -1,9 +1,12 @@
 -- In a run of a form alone each row is the sum of its terms.
-use Rattle.std.proofs.Common.{◌≡◌, ℕ, ◌+◌, ◌-◌, ◌<◌, ◌≤◌, Bool, true, false, cond, ◌&&◌, eqb, nat_le, nat_lt, List, [], ◌∷◌, map, filter, length, All, refl, arith, sym, ap, ap₂, ◌∙◌, unsigned_abs}
+use Rattle.std.proofs.Common.{◌≡◌, ℕ, ◌+◌, ◌-◌, ◌<◌, ◌≤◌, Bool, true, false, cond, ◌&&◌, eqb, nat_le, nat_lt}
+use Rattle.std.proofs.Common.{List, [], ◌∷◌, map, filter, length, All, refl, arith, sym, ap, ap₂, ◌∙◌}
+use Rattle.std.proofs.Common.{unsigned_abs}
 use Rattle.std.proofs.Math.IntN.{ℤ, pos, ◌+ℤ◌, ◌*ℤ◌}
 use Rattle.std.specs.List.{IsDistinct}
 use Rattle.std.proofs.lemmas.Int.{ints}
-use Rattle.std.proofs.lemmas.Bool.{eq-eqb, eqb-true, cond-true, and_from, and_parts, le-leb, lt-ltb, ltb-true, true≢false}
+use Rattle.std.proofs.lemmas.Bool.{eq-eqb, eqb-true, cond-true, and_from, and_parts, le-leb, lt-ltb, ltb-true}
+use Rattle.std.proofs.lemmas.Bool.{true≢false}
 use Rattle.std.proofs.lemmas.List.Elements.{All-head, All-tail, All-nil, All-cons}
 use Rattle.std.proofs.lemmas.Map.Keys.{IsDistinct-tail}
 use Rattle.fx_nums.specs.Fraction.{Fraction, over, IsWholeOver, zero_fraction}
@@ -11,7 +14,8 @@ use Rattle.fx_eqs.specs.Expanded.{NetRead, NetTerm}
 use Rattle.fx_eqs.specs.Expanded.NetRead.{Now, Old, In}
 use Rattle.fx_eqs.proofs.Distinct.{distinct_head}
 use Rattle.fx_net.specs.Net.{Net, plain}
-use Rattle.fx_net.specs.Rows.{reads_now, reads_old, reads_input, coefficient_or, coefficient, row_of, put_rows, ReadFits}
+use Rattle.fx_net.specs.Rows.{reads_now, reads_old, reads_input, coefficient_or, coefficient, row_of, put_rows}
+use Rattle.fx_net.specs.Rows.{ReadFits}
 use Rattle.fx_net.specs.Run.{row_sum}
 use Rattle.fx_net.proofs.Coefficients.{NotRead, AreOnce, AllFit, value_at, net_sum}
 use Rattle.fx_net.proofs.Carried.{of_now, of_old, of_input}

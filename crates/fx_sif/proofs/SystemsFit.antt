@@ -1,5 +1,6 @@
 -- Terms without a fault make a system within the limits.
-use Rattle.std.proofs.Common.{◌≡◌, ℕ, ◌<◌, ◌≤◌, Bool, true, false, cond, List, [], ◌∷◌, ◌++◌, length, All, Option, None, refl, arith, append_assoc, ap, sym, ◌∙◌}
+use Rattle.std.proofs.Common.{◌≡◌, ℕ, ◌<◌, ◌≤◌, Bool, true, false, cond, List, [], ◌∷◌, ◌++◌, length, All}
+use Rattle.std.proofs.Common.{Option, None, refl, arith, append_assoc, ap, sym, ◌∙◌}
 use Rattle.std.specs.List.{IsDistinct, AllByRecursion, list_any}
 use Rattle.std.proofs.lemmas.Bool.{or_parts, ltb-false}
 use Rattle.std.proofs.lemmas.Bool.Decides.{nat_tests}
@@ -7,7 +8,8 @@ use Rattle.std.proofs.lemmas.List.Elements.{All-nil, All-cons, filter-append}
 use Rattle.fx_eqs.specs.Equations.{is_kept, kept}
 use Rattle.fx_math.proofs.Faults.{if_none, or_none}
 use Rattle.fx_math.proofs.Orders.{not_le, not_zero}
-use Rattle.fx_eqs.specs.Faults.{source_fault, is_forward_read, is_same_read, kept_term_fault, term_fault, terms_fault, eqs_fault}
+use Rattle.fx_eqs.specs.Faults.{source_fault, is_forward_read, is_same_read, kept_term_fault, term_fault}
+use Rattle.fx_eqs.specs.Faults.{terms_fault, eqs_fault}
 use Rattle.fx_eqs.specs.Fits.{SourceFits, IsThereByThen, TermFits, EquationsFit}
 use Rattle.fx_eqs.specs.Lags.{net_rows}
 use Rattle.fx_eqs.specs.declared.limits.TheConstants.{PORTS, NET_ROWS, EQUATION_TERMS, LONGEST_LAG}

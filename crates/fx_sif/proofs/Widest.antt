@@ -1,5 +1,6 @@
 -- The widest denominator is one of a form's net alone.
-use Rattle.std.proofs.Common.{ℕ, ◌+◌, ◌-◌, ◌<◌, Bool, true, false, cond, ◌&&◌, eqb, nat_le, nat_lt, List, [], ◌∷◌, map, filter, length, arith, sym, subst, unsigned_abs}
+use Rattle.std.proofs.Common.{ℕ, ◌+◌, ◌-◌, ◌<◌, Bool, true, false, cond, ◌&&◌, eqb, nat_le, nat_lt, List, []}
+use Rattle.std.proofs.Common.{◌∷◌, map, filter, length, arith, sym, subst, unsigned_abs}
 use Rattle.std.proofs.lemmas.List.Elements.{All-head, All-tail}
 use Rattle.fx_nums.specs.Fraction.{Fraction, DenFits, zero_fraction}
 use Rattle.fx_eqs.specs.Expanded.{NetRead}

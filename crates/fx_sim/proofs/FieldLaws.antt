@@ -1,10 +1,14 @@
 -- A number is read exactly from the fields that stand for it.
-use Rattle.std.proofs.Common.{◌≡◌, ◌+◌, ◌-◌, ◌*◌, ◌≤◌, ◌==◌, ◌&&◌, ◌||◌, ◌∙◌, Bool, true, false, cond, nat_lt, List, ℕ, ℤ, Option, Some, None, option_map, [], ◌∷◌, ◌++◌, length, refl, sym, ap, inl, inr, arith}
+use Rattle.std.proofs.Common.{◌≡◌, ◌+◌, ◌-◌, ◌*◌, ◌≤◌, ◌==◌, ◌&&◌, ◌||◌, ◌∙◌, Bool, true, false, cond, nat_lt}
+use Rattle.std.proofs.Common.{List, ℕ, ℤ, Option, Some, None, option_map, [], ◌∷◌, ◌++◌, length, refl, sym, ap}
+use Rattle.std.proofs.Common.{inl, inr, arith}
 use Rattle.std.specs.List.{AllByRecursion}
 use Rattle.std.proofs.lemmas.Option.{cond_some, same_Some}
-use Rattle.std.proofs.lemmas.Bool.{cases_Bool, and_parts, ne_eqb, or_parts, ltb-true, ltb-false, eqb-true, eqb-false, lt-ltb}
+use Rattle.std.proofs.lemmas.Bool.{cases_Bool, and_parts, ne_eqb, or_parts, ltb-true, ltb-false, eqb-true}
+use Rattle.std.proofs.lemmas.Bool.{eqb-false, lt-ltb}
 use Rattle.std.proofs.lemmas.Bool.Decides.{nat_tests}
-use Rattle.fx_nums.specs.Signs.{Sign, Bare, Plus, Minus, digit_nine, digit_value, digit_zero, is_blank, is_minus, IsDigit, minus_sign, number_from, plus_sign, sign_text, signed}
+use Rattle.fx_nums.specs.Signs.{Sign, Bare, Plus, Minus, digit_nine, digit_value, digit_zero, is_blank}
+use Rattle.fx_nums.specs.Signs.{is_minus, IsDigit, minus_sign, number_from, plus_sign, sign_text, signed}
 use Rattle.fx_sim.specs.declared.field.TheConstants.{FIELD_DIGITS}
 use Rattle.fx_sim.specs.Fields.{IsBlank, IsField, skipped, ended, magnitude, number_in, field_value}
 use Rattle.fx_sim.specs.Laws.{FieldLaw}
@@ -33,7 +37,12 @@ skips [] = record { before = []; blank = tt; text_is = refl }
 skips (c ∷ cs) = elim (cases_Bool (is_blank c)) [
   | inl yes_blank ↦
       let later = skips cs in
-      record { before = c ∷ later.before; blank = (yes_blank, later.blank); text_is = rw yes_blank (ap (λ (t : List ℕ). c ∷ t) later.text_is) }
+      record {
+        before = c ∷ later.before;
+        blank = (yes_blank, later.blank);
+        text_is =
+            rw yes_blank (ap (λ (t : List ℕ). c ∷ t) later.text_is);
+      }
   | inr not_blank ↦ record { before = []; blank = tt; text_is = rw not_blank refl }
 ]
 
@@ -82,7 +91,8 @@ record Ends (count value : ℕ) (text : List ℕ) (number : ℕ) : Type 0 where
   text_is : text ≡ digits ++ behind
   number_is : number ≡ number_from value digits
 
-ended_is : (count value : ℕ) (text : List ℕ) (number : ℕ) → count ≤ FIELD_DIGITS → ended count value text ≡ Some number → Ends count value text number
+ended_is : (count value : ℕ) (text : List ℕ) (number : ℕ) → count ≤ FIELD_DIGITS →
+    ended count value text ≡ Some number → Ends count value text number
 ended_is count value text number few h =
     let (tested, same) = cond_some (nat_lt 0 count && length (skipped text) == 0) value number h in
     let (some, nothing) = and_parts (nat_lt 0 count) (length (skipped text) == 0) tested in
@@ -98,7 +108,8 @@ ended_is count value text number few h =
       number_is = sym same;
     }
 
-one_digit : (count value c : ℕ) (cs : List ℕ) (number : ℕ) → IsDigit c → Ends (count + 1) (10 * value + digit_value c) cs number → Ends count value (c ∷ cs) number
+one_digit : (count value c : ℕ) (cs : List ℕ) (number : ℕ) → IsDigit c →
+    Ends (count + 1) (10 * value + digit_value c) cs number → Ends count value (c ∷ cs) number
 one_digit count value c cs number digit e =
     let some = e.some in
     let few = e.few in
@@ -113,13 +124,15 @@ one_digit count value c cs number digit e =
       number_is = e.number_is;
     }
 
-magnitude_is : (count value : ℕ) (text : List ℕ) (number : ℕ) → count ≤ FIELD_DIGITS → magnitude count value text ≡ Some number → Ends count value text number
+magnitude_is : (count value : ℕ) (text : List ℕ) (number : ℕ) → count ≤ FIELD_DIGITS →
+    magnitude count value text ≡ Some number → Ends count value text number
 unfolding magnitude
 magnitude_is count value [] number few h = ended_is count value [] number few h
 magnitude_is count value (c ∷ cs) number few h = elim (cases_Bool (is_other c)) [
   | inl other ↦ ended_is count value (c ∷ cs) number few (rw other at h)
   | inr digit ↦
-      let next : cond (count == FIELD_DIGITS) None (magnitude (count + 1) (10 * value + digit_value c) cs) ≡ Some number = rw digit at h in
+      let next : cond (count == FIELD_DIGITS) None (magnitude (count + 1) (10 * value + digit_value c) cs)
+      ≡ Some number = rw digit at h in
       elim (cases_Bool (count == FIELD_DIGITS)) [
         | inl full ↦ absurd (let bad : None ≡ Some number = rw full at next in cc)
         | inr room ↦
@@ -129,21 +142,28 @@ magnitude_is count value (c ∷ cs) number few h = elim (cases_Bool (is_other c)
       ]
 ]
 
-ended_read : (count value : ℕ) (text : List ℕ) → AllByRecursion IsBlank text → 1 ≤ count → ended count value text ≡ Some value
+ended_read : (count value : ℕ) (text : List ℕ) → AllByRecursion IsBlank text → 1 ≤ count →
+    ended count value text ≡ Some value
 ended_read count value text blank some = rw (lt-ltb 0 count some, no_blanks_left text blank) refl
 
-ends_read : (count value : ℕ) (behind : List ℕ) → AllByRecursion IsBlank behind → 1 ≤ count → magnitude count value behind ≡ Some value
+ends_read : (count value : ℕ) (behind : List ℕ) → AllByRecursion IsBlank behind → 1 ≤ count →
+    magnitude count value behind ≡ Some value
 unfolding magnitude
 ends_read count value [] blank some = ended_read count value [] blank some
 ends_read count value (c ∷ cs) blank some = rw (blank_is_other c blank.0) (ended_read count value (c ∷ cs) blank some)
 
-magnitude_read : (count value : ℕ) (digits behind : List ℕ) → AllByRecursion IsDigit digits → AllByRecursion IsBlank behind → 1 ≤ count + length digits
+magnitude_read : (count value : ℕ) (digits behind : List ℕ) → AllByRecursion IsDigit digits →
+    AllByRecursion IsBlank behind → 1 ≤ count + length digits
     → count + length digits ≤ FIELD_DIGITS → magnitude count value (digits ++ behind) ≡ Some (number_from value digits)
 unfolding magnitude
 magnitude_read count value [] behind are_digits blank some few = ends_read count value behind blank (omega arith)
 magnitude_read count value (c ∷ cs) behind are_digits blank some few =
     let room : (count == FIELD_DIGITS) ≡ false = ne_eqb count FIELD_DIGITS (λ same. omega arith) in
-    rw (is_digit c are_digits.0, room) (magnitude_read (count + 1) (10 * value + digit_value c) cs behind are_digits.1 blank (omega arith) (omega arith))
+    rw (
+      is_digit c are_digits.0,
+      room,
+    ) (magnitude_read (count + 1) (10 * value + digit_value c) cs behind are_digits.1 blank (omega arith)
+    (omega arith))
 
 -- ---- signs
 
@@ -163,7 +183,8 @@ with_this : (sign : Sign) (rest text : List ℕ) (number : ℤ) → text ≡ sig
     → option_map (signed (is_minus sign)) (magnitude 0 0 rest) ≡ Some number → IsSigned text number
 with_this sign rest text number same h = go (magnitude 0 0 rest) refl h
   where
-    go : (o : Option ℕ) → magnitude 0 0 rest ≡ o → option_map (signed (is_minus sign)) o ≡ Some number → IsSigned text number
+    go : (o : Option ℕ) → magnitude 0 0 rest ≡ o → option_map (signed (is_minus sign)) o ≡ Some number →
+        IsSigned text number
     go None e h = absurd cc
     go (Some n) e h =
         let ends = magnitude_is 0 0 rest n (omega arith) e in
@@ -187,16 +208,20 @@ number_is_signed [] number h = absurd cc
 number_is_signed (c ∷ cs) number h = elim (cases_Bool (c == minus_sign)) [
   | inl minus ↦ with_this Minus cs (c ∷ cs) number (ap (λ n. n ∷ cs) (eqb-true c minus_sign minus)) (rw minus at h)
   | inr not_minus ↦ elim (cases_Bool (c == plus_sign)) [
-    | inl plus ↦ with_this Plus cs (c ∷ cs) number (ap (λ n. n ∷ cs) (eqb-true c plus_sign plus)) (rw (not_minus, plus) at h)
+    | inl plus ↦ with_this Plus cs (c ∷ cs) number (ap (λ n. n ∷ cs) (eqb-true c plus_sign plus))
+        (rw (not_minus, plus) at h)
     | inr not_plus ↦ with_this Bare (c ∷ cs) (c ∷ cs) number refl (rw (not_minus, not_plus) at h)
   ]
 ]
 
-signed_number_read : (sign : Sign) (digits behind : List ℕ) → AllByRecursion IsDigit digits → AllByRecursion IsBlank behind → 1 ≤ length digits → length digits ≤ FIELD_DIGITS
+signed_number_read : (sign : Sign) (digits behind : List ℕ) → AllByRecursion IsDigit digits →
+    AllByRecursion IsBlank behind → 1 ≤ length digits → length digits ≤ FIELD_DIGITS
     → number_in (sign_text sign ++ (digits ++ behind)) ≡ Some (signed (is_minus sign) (number_from 0 digits))
 unfolding number_in
-signed_number_read Minus digits behind are_digits blank some few = rw (magnitude_read 0 0 digits behind are_digits blank (omega arith) (omega arith)) refl
-signed_number_read Plus digits behind are_digits blank some few = rw (magnitude_read 0 0 digits behind are_digits blank (omega arith) (omega arith)) refl
+signed_number_read Minus digits behind are_digits blank some few =
+    rw (magnitude_read 0 0 digits behind are_digits blank (omega arith) (omega arith)) refl
+signed_number_read Plus digits behind are_digits blank some few =
+    rw (magnitude_read 0 0 digits behind are_digits blank (omega arith) (omega arith)) refl
 signed_number_read Bare [] behind are_digits blank some few = absurd (omega arith)
 signed_number_read Bare (d ∷ ds) behind are_digits blank some few =
     let low = are_digits.0.0 in
@@ -235,8 +260,10 @@ field_is field number h =
 pub field_read : (field : List ℕ) (number : ℤ) → IsField field number → field_value field ≡ Some number
 field_read field number f =
     let rest : List ℕ = sign_text f.sign ++ (f.digits ++ f.behind) in
-    let here : skipped field ≡ rest = ap skipped f.text ∙ skipped_blanks f.before rest f.front_blank ∙ sign_stays f.sign f.digits f.behind f.are_digits f.some in
-    let read : number_in rest ≡ Some (signed (is_minus f.sign) (number_from 0 f.digits)) = signed_number_read f.sign f.digits f.behind f.are_digits f.end_blank f.some f.few in
+    let here : skipped field ≡ rest = ap skipped f.text ∙ skipped_blanks f.before rest f.front_blank
+    ∙ sign_stays f.sign f.digits f.behind f.are_digits f.some in
+    let read : number_in rest ≡ Some (signed (is_minus f.sign) (number_from 0 f.digits)) =
+    signed_number_read f.sign f.digits f.behind f.are_digits f.end_blank f.some f.few in
     ap number_in here ∙ read ∙ ap (λ (z : ℤ). Some z) (sym f.value)
 
 pub read_exactly : FieldLaw

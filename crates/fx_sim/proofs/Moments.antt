@@ -1,5 +1,7 @@
 -- Moments are read from exactly the records that stand for them.
-use Rattle.std.proofs.Common.{◌≡◌, ◌+◌, ◌-◌, ◌^◌, ◌<◌, ◌==◌, Bool, true, false, cond, List, ℕ, zero, suc, ℤ, pos, neg_ℤ, Option, Some, None, Result, Ok, Err, [], ◌∷◌, length, get_or, T, refl, ap, subst, arith}
+use Rattle.std.proofs.Common.{◌≡◌, ◌+◌, ◌-◌, ◌^◌, ◌<◌, ◌==◌, Bool, true, false, cond, List, ℕ, zero, suc, ℤ}
+use Rattle.std.proofs.Common.{pos, neg_ℤ, Option, Some, None, Result, Ok, Err, [], ◌∷◌, length, get_or, T, refl}
+use Rattle.std.proofs.Common.{ap, subst, arith}
 use Rattle.std.specs.Int.Signed.{le_z, lt_z, le_z_yes, lt_z_yes}
 use Rattle.std.specs.List.{AllZip}
 use Rattle.std.proofs.lemmas.Bool.{and_from, and_parts, eq-eqb, eqb-true}
@@ -18,7 +20,8 @@ use Rattle.fx_sim.proofs.FieldLaws.{field_is, field_read}
 -- ---- steps
 
 -- steps that give a value
-bind_ok : {A B : Type 0} (read : Result A SampleFault) (f : A → Result B SampleFault) (y : B) → (read >>= f) ≡ Ok y → (x : A) × (read ≡ Ok x) × (f x ≡ Ok y)
+bind_ok : {A B : Type 0} (read : Result A SampleFault) (f : A → Result B SampleFault) (y : B) →
+    (read >>= f) ≡ Ok y → (x : A) × (read ≡ Ok x) × (f x ≡ Ok y)
 bind_ok (Ok x) f y h = (x, refl, h)
 bind_ok (Err e) f y h = absurd cc
 
@@ -28,7 +31,8 @@ test_ok true x y e h = (refl, cc)
 test_ok false x y e h = absurd cc
 
 -- a test before a step that gives a value
-step_ok : {A : Type 0} (b : Bool) (read : Result A SampleFault) (y : A) (e : SampleFault) → cond b read (Err e) ≡ Ok y → (b ≡ true) × (read ≡ Ok y)
+step_ok : {A : Type 0} (b : Bool) (read : Result A SampleFault) (y : A) (e : SampleFault) →
+    cond b read (Err e) ≡ Ok y → (b ≡ true) × (read ≡ Ok y)
 step_ok true read y e h = (refl, h)
 step_ok false read y e h = absurd cc
 
@@ -44,7 +48,8 @@ word_fits w z h =
     record { low = le_z_yes (rw low tt); high = lt_z_yes (rw high tt) }
 
 fits_word : (w : ℕ) (z : ℤ) → FitsBits w z → is_word w z ≡ true
-fits_word w z h = and_from (le_z (neg_ℤ (pos (2 ^ (w - 1)))) z) (lt_z z (pos (2 ^ (w - 1)))) (sure _ h.low.le) (sure _ h.high.lt)
+fits_word w z h = and_from (le_z (neg_ℤ (pos (2 ^ (w - 1)))) z) (lt_z z (pos (2 ^ (w - 1)))) (sure _ h.low.le)
+    (sure _ h.high.lt)
   where
     sure : (b : Bool) → T b → b ≡ true
     sure true t = refl
@@ -53,7 +58,9 @@ fits_word w z h = and_from (le_z (neg_ℤ (pos (2 ^ (w - 1)))) z) (lt_z z (pos (
 word_is : (number column w : ℕ) (f : List ℕ) (z : ℤ) → word_in number column w f ≡ Ok z → IsField f z × FitsBits w z
 unfolding word_in
 word_is number column w f z h =
-    let (x, found, tested) = bind_ok (or_fault (Field number column) (field_value f)) (λ z. cond (is_word w z) (Ok z) (Err (OutOfWord number column z))) z h in
+    let (x, found, tested) =
+    bind_ok (or_fault (Field number column) (field_value f)) (λ z.
+    cond (is_word w z) (Ok z) (Err (OutOfWord number column z))) z h in
     let (word, same) = test_ok (is_word w x) x z (OutOfWord number column x) tested in
     let P : ℤ → Type 0 = λ n. IsField f n × FitsBits w n in
     subst P same (field_is f x (found_ok (Field number column) (field_value f) x found), word_fits w x word)
@@ -64,8 +71,16 @@ word_read number column w f z is fits = rw (field_read f z is) (rw (fits_word w 
 
 -- ---- records
 
-one_more : (w : ℕ) (ws f : List ℕ) (fs : List (List ℕ)) (z : ℤ) (zs : List ℤ) → IsField f z → FitsBits w z → IsRecordOf ws fs zs → IsRecordOf (w ∷ ws) (f ∷ fs) (z ∷ zs)
-one_more w ws f fs z zs is fits later = record { fields_count = ap suc later.fields_count; words_count = ap suc later.words_count; are_fields = each; fit = go }
+one_more : (w : ℕ) (ws f : List ℕ) (fs : List (List ℕ)) (z : ℤ) (zs : List ℤ) → IsField f z → FitsBits w z →
+    IsRecordOf ws fs zs → IsRecordOf (w ∷ ws) (f ∷ fs) (z ∷ zs)
+one_more w ws f fs z zs is fits later =
+    record {
+      fields_count = ap suc later.fields_count;
+      words_count = ap suc later.words_count;
+      are_fields =
+          each;
+      fit = go;
+    }
   where
     each : (j : ℕ) → j < length (w ∷ ws) → IsField (get_or (f ∷ fs) j []) (get_or (z ∷ zs) j (pos 0))
     each zero below = is
@@ -75,7 +90,8 @@ one_more w ws f fs z zs is fits later = record { fields_count = ap suc later.fie
     go zero below = fits
     go (suc j) below = later.fit j (omega arith)
 
-one_less : (w : ℕ) (ws f : List ℕ) (fs : List (List ℕ)) (z : ℤ) (zs : List ℤ) → IsRecordOf (w ∷ ws) (f ∷ fs) (z ∷ zs) → IsRecordOf ws fs zs
+one_less : (w : ℕ) (ws f : List ℕ) (fs : List (List ℕ)) (z : ℤ) (zs : List ℤ) →
+    IsRecordOf (w ∷ ws) (f ∷ fs) (z ∷ zs) → IsRecordOf ws fs zs
 one_less w ws f fs z zs r =
     let fields_count = r.fields_count in
     let words_count = r.words_count in
@@ -86,22 +102,31 @@ one_less w ws f fs z zs r =
       fit = λ j below. r.fit (suc j) (omega arith);
     }
 
-words_are : (number column : ℕ) (widths : List ℕ) (fields : List (List ℕ)) (words : List ℤ) → length fields ≡ length widths
+words_are : (number column : ℕ) (widths : List ℕ) (fields : List (List ℕ)) (words : List ℤ) →
+    length fields ≡ length widths
     → words_in number column widths fields ≡ Ok words → IsRecordOf widths fields words
 unfolding words_in
 words_are number column [] fields words same h =
     let none : words ≡ [] = cc in
-    record { fields_count = same; words_count = rw none refl; are_fields = λ j below. absurd (omega arith); fit = λ j below. absurd (omega arith) }
+    record {
+      fields_count = same;
+      words_count = rw none refl;
+      are_fields =
+          λ j below. absurd (omega arith);
+      fit = λ j below. absurd (omega arith);
+    }
 words_are number column (w ∷ ws) [] words same h = absurd (omega arith)
 words_are number column (w ∷ ws) (f ∷ fs) words same h =
-    let (z, word, later) = bind_ok (word_in number column w f) (λ z. words_in number (column + 1) ws fs >>= λ zs. Ok (z ∷ zs)) words h in
+    let (z, word, later) = bind_ok (word_in number column w f) (λ z.
+    words_in number (column + 1) ws fs >>= λ zs. Ok (z ∷ zs)) words h in
     let (zs, rest, all) = bind_ok (words_in number (column + 1) ws fs) (λ zs. Ok (z ∷ zs)) words later in
     let is : z ∷ zs ≡ words = cc in
     let here = word_is number column w f z word in
     let P : List ℤ → Type 0 = λ l. IsRecordOf (w ∷ ws) (f ∷ fs) l in
     subst P is (one_more w ws f fs z zs here.0 here.1 (words_are number (column + 1) ws fs zs (omega arith) rest))
 
-words_read : (number column : ℕ) (widths : List ℕ) (fields : List (List ℕ)) (words : List ℤ) → IsRecordOf widths fields words
+words_read : (number column : ℕ) (widths : List ℕ) (fields : List (List ℕ)) (words : List ℤ) →
+    IsRecordOf widths fields words
     → words_in number column widths fields ≡ Ok words
 unfolding words_in
 words_read number column [] [] [] r = refl
@@ -121,13 +146,16 @@ is_moment p number fields words same h =
     let all = words_are number 1 p.inputs fields words same h in
     record { count = all.words_count; fits = all.fit }
 
-moment_is : (number : ℕ) (widths : List ℕ) (fields : List (List ℕ)) (words : List ℤ) → moment_in number widths fields ≡ Ok words → IsRecordOf widths fields words
+moment_is : (number : ℕ) (widths : List ℕ) (fields : List (List ℕ)) (words : List ℤ) →
+    moment_in number widths fields ≡ Ok words → IsRecordOf widths fields words
 unfolding moment_in
 moment_is number widths fields words h =
-    let (same, read) = step_ok (length fields == length widths) (words_in number 1 widths fields) words (Columns number (length fields) (length widths)) h in
+    let (same, read) = step_ok (length fields == length widths) (words_in number 1 widths fields) words
+    (Columns number (length fields) (length widths)) h in
     words_are number 1 widths fields words (eqb-true (length fields) (length widths) same) read
 
-moment_read : (number : ℕ) (widths : List ℕ) (fields : List (List ℕ)) (words : List ℤ) → IsRecordOf widths fields words → moment_in number widths fields ≡ Ok words
+moment_read : (number : ℕ) (widths : List ℕ) (fields : List (List ℕ)) (words : List ℤ) →
+    IsRecordOf widths fields words → moment_in number widths fields ≡ Ok words
 unfolding moment_in
 moment_read number widths fields words r =
     let same : (length fields == length widths) ≡ true = eq-eqb (length fields) (length widths) r.fields_count in
@@ -135,17 +163,22 @@ moment_read number widths fields words r =
 
 -- ---- samples
 
-moments_are : (number : ℕ) (widths : List ℕ) (rows : List (List (List ℕ))) (list : List (List ℤ)) → moments_in number widths rows ≡ Ok list → AllZip (IsRecordOf widths) rows list
+moments_are : (number : ℕ) (widths : List ℕ) (rows : List (List (List ℕ))) (list : List (List ℤ)) →
+    moments_in number widths rows ≡ Ok list → AllZip (IsRecordOf widths) rows list
 unfolding moments_in
 moments_are number widths [] list h = let none : list ≡ [] = cc in rw none tt
 moments_are number widths (fields ∷ rest) list h =
-    let (words, here, later) = bind_ok (moment_in number widths fields) (λ words. moments_in (number + 1) widths rest >>= λ moments. Ok (words ∷ moments)) list h in
-    let (moments, all, whole) = bind_ok (moments_in (number + 1) widths rest) (λ moments. Ok (words ∷ moments)) list later in
+    let (words, here, later) =
+    bind_ok (moment_in number widths fields) (λ words. moments_in (number + 1) widths rest >>= λ moments.
+    Ok (words ∷ moments)) list h in
+    let (moments, all, whole) =
+    bind_ok (moments_in (number + 1) widths rest) (λ moments. Ok (words ∷ moments)) list later in
     let is : words ∷ moments ≡ list = cc in
     let P : List (List ℤ) → Type 0 = λ l. AllZip (IsRecordOf widths) (fields ∷ rest) l in
     subst P is (moment_is number widths fields words here, moments_are (number + 1) widths rest moments all)
 
-moments_read : (number : ℕ) (widths : List ℕ) (rows : List (List (List ℕ))) (list : List (List ℤ)) → AllZip (IsRecordOf widths) rows list → moments_in number widths rows ≡ Ok list
+moments_read : (number : ℕ) (widths : List ℕ) (rows : List (List (List ℕ))) (list : List (List ℤ)) →
+    AllZip (IsRecordOf widths) rows list → moments_in number widths rows ≡ Ok list
 unfolding moments_in
 moments_read number widths [] [] h = refl
 moments_read number widths [] (m ∷ ms) h = absurd h

@@ -1,7 +1,9 @@
 -- The number that a field of a record stands for.
-use Rattle.std.specs.Prelude.{◌≡◌, ℕ, ℤ, ◌+◌, ◌*◌, ◌≤◌, ◌==◌, ◌&&◌, ◌||◌, nat_lt, true, false, List, [], ◌∷◌, ◌++◌, length, Option, Some, None, option_map, if◌then◌else◌}
+use Rattle.std.specs.Prelude.{◌≡◌, ℕ, ℤ, ◌+◌, ◌*◌, ◌≤◌, ◌==◌, ◌&&◌, ◌||◌, nat_lt, true, false, List, [], ◌∷◌}
+use Rattle.std.specs.Prelude.{◌++◌, length, Option, Some, None, option_map, if◌then◌else◌}
 use Rattle.std.specs.List.{AllByRecursion}
-use Rattle.fx_nums.specs.Signs.{digit_nine, digit_value, digit_zero, is_blank, is_minus, IsDigit, minus_sign, number_from, plus_sign, Sign, sign_text, signed}
+use Rattle.fx_nums.specs.Signs.{digit_nine, digit_value, digit_zero, is_blank, is_minus, IsDigit, minus_sign}
+use Rattle.fx_nums.specs.Signs.{number_from, plus_sign, Sign, sign_text, signed}
 use Rattle.fx_sim.specs.declared.field.TheConstants.{FIELD_DIGITS}
 
 -- ---- what a field is

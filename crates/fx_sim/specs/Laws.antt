@@ -10,7 +10,8 @@ use Rattle.fx_sim.specs.Samples.{samples_in}
 abbrev pub FieldLaw : Type 0
 FieldLaw = (field : List ℕ) (number : ℤ) → (field_value field ≡ Some number) ↔ IsField field number
 
--- a record that stands for words of inputs of these widths: one field for each input, whose number is a word of its width
+-- a record that stands for words of inputs of these widths: one field for each input, whose number is a word of its
+-- width
 pub record IsRecordOf (widths : List ℕ) (fields : List (List ℕ)) (words : List ℤ) : Type 0 where
   pub fields_count : length fields ≡ length widths
   pub words_count : length words ≡ length widths
@@ -19,4 +20,6 @@ pub record IsRecordOf (widths : List ℕ) (fields : List (List ℕ)) (words : Li
 
 -- moments are read from exactly the samples whose records stand for them, one after the other
 abbrev pub SamplesLaw : Type 0
-SamplesLaw = (widths bytes : List ℕ) (list : List (List ℤ)) → (samples_in widths bytes ≡ Ok list) ↔ AllZip (IsRecordOf widths) (records default_config (strip_bom bytes)) list
+SamplesLaw = (widths bytes : List ℕ) (list : List (List ℤ)) →
+    (samples_in widths bytes ≡ Ok list) ↔ AllZip (IsRecordOf widths) (records default_config (strip_bom bytes))
+    list

@@ -1,5 +1,6 @@
 -- The numbers of samples, moment by moment, or their first fault.
-use Rattle.std.specs.Prelude.{◌≡◌, ℕ, ℤ, pos, neg_ℤ, ◌+◌, ◌-◌, ◌^◌, ◌==◌, ◌&&◌, Bool, true, false, List, [], ◌∷◌, length, Result, Ok, Err, if◌then◌else◌}
+use Rattle.std.specs.Prelude.{◌≡◌, ℕ, ℤ, pos, neg_ℤ, ◌+◌, ◌-◌, ◌^◌, ◌==◌, ◌&&◌, Bool, true, false, List, []}
+use Rattle.std.specs.Prelude.{◌∷◌, length, Result, Ok, Err, if◌then◌else◌}
 use Rattle.std.specs.Int.Signed.{le_z, lt_z}
 use Rattle.csv.specs.Reading.{default_config, records, strip_bom}
 use Rattle.fx_math.specs.Faults.{or_fault, ◌>>=◌}
@@ -33,7 +34,8 @@ words_in number column _ _ = Ok []
 -- the words of the record with this number: one field for each input
 unfoldable pub moment_in : ℕ → List ℕ → List (List ℕ) → Result (List ℤ) SampleFault
 moment_in number widths fields =
-    if length fields == length widths then words_in number 1 widths fields else Err (Columns number (length fields) (length widths))
+    if length fields == length widths then words_in number 1 widths fields else Err
+    (Columns number (length fields) (length widths))
 
 -- the words of the records from this number on
 unfoldable pub moments_in : ℕ → List ℕ → List (List (List ℕ)) → Result (List (List ℤ)) SampleFault
@@ -43,6 +45,7 @@ moments_in number widths (fields ∷ rest) = do
   moments ← moments_in (number + 1) widths rest
   Ok (words ∷ moments)
 
--- the words of samples for inputs of these widths: each record of the text, without a byte order mark at its start, is one moment
+-- the words of samples for inputs of these widths: each record of the text, without a byte order mark at its start, is
+-- one moment
 abbrev pub samples_in : List ℕ → List ℕ → Result (List (List ℤ)) SampleFault
 samples_in widths bytes = moments_in 1 widths (records default_config (strip_bom bytes))

@@ -1,6 +1,20 @@
 // The words of records.
 
-ghost use Rattle.std.specs.Prelude.{[], slice_index_or, ◌≡◌, ◌≤◌, ◌<◌, ◌+◌, length, slice_index, FitsSigned, IfErr, IfOk, OnOk, Ok};
+ghost use Rattle.std.specs.Prelude.{
+  [],
+  slice_index_or,
+  ◌≡◌,
+  ◌≤◌,
+  ◌<◌,
+  ◌+◌,
+  length,
+  slice_index,
+  FitsSigned,
+  IfErr,
+  IfOk,
+  OnOk,
+  Ok,
+};
 ghost use Rattle.std.specs.Int.{w64};
 ghost use Rattle.csv.specs.Records.{fields_of};
 ghost use Rattle.fx_code.specs.Inputs.{IsMoment};
@@ -50,7 +64,9 @@ fn column_word(
 ) -> Result<i64, SampleFault>
     requires input { j < length program.now.inputs }
     requires field { j < length (fields_of row.now) }
-    ensures word { Gives is_memory (λ z. z) result (word_in number (j + 1) (slice_index program.now.inputs j) (slice_index_or (fields_of row.now) j [])) }
+    ensures word { Gives is_memory (λ z.
+        z) result (word_in number (j + 1) (slice_index program.now.inputs j)
+        (slice_index_or (fields_of row.now) j [])) }
     ensures fits { IfOk result (λ z. FitsSigned w64 z) }
 {
     let Some(field) = row.get(j) else {

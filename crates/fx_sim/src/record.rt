@@ -37,7 +37,8 @@ fn fault_of(error: &Error) -> SampleFault
 pub fn next_record(reader: &mut Reader<&[u8]>, row: &mut ByteRecord) -> Result<bool, SampleFault>
     requires { Stands reader.old }
     ensures stands { IfOk result (λ found. found ≡ true → Stands reader.new) }
-    ensures found { IfOk result (λ found. found ≡ true → records_left reader.old ≡ fields_of row.new ∷ records_left reader.new) }
+    ensures found { IfOk result (λ found. found ≡ true →
+        records_left reader.old ≡ fields_of row.new ∷ records_left reader.new) }
     ensures none { IfOk result (λ found. found ≡ false → records_left reader.old ≡ []) }
     ensures memory { IfErr result (λ e. e ≡ NoMemory) }
 {

@@ -29,8 +29,10 @@ fn put_moment(
 ) -> Result<(), AllocError>
     requires input { IsMoment machine.old.program input.now }
     requires output { length output.old ≡ length machine.old.program.outputs }
-    ensures stands { (p : Code) (list : List (List ℤ)) → StandsAfter machine.old p list → StandsAfter machine.new p (list ++ input.now ∷ []) }
-    ensures output { (p : Code) (list : List (List ℤ)) → StandsAfter machine.old p list → output.new ≡ outputs_at p (word_at (list ++ input.now ∷ [])) (length list) }
+    ensures stands { (p : Code) (list : List (List ℤ)) → StandsAfter machine.old p list →
+        StandsAfter machine.new p (list ++ input.now ∷ []) }
+    ensures output { (p : Code) (list : List (List ℤ)) → StandsAfter machine.old p list →
+        output.new ≡ outputs_at p (word_at (list ++ input.now ∷ [])) (length list) }
     ensures line { OnOk result (text.new.items ≡ text.old.items ++ line_of output.new) }
 {
     machine.step(input, output);

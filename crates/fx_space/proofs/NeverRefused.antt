@@ -13,7 +13,8 @@ use Rattle.fx_sif.specs.declared.parts.Block.{Block}
 use Rattle.fx_sif.specs.declared.parts.Block.TheVariants.{P, Q, R, S}
 use Rattle.fx_sif.specs.declared.parts.Entry.{Entry}
 use Rattle.fx_sif.specs.declared.parts.Sizes.{Sizes}
-use Rattle.fx_sif.proofs.Ascending.{Ascends, CountsFit, number, fits_from, never_from, ascends_append, ascends_higher, ascends_lower, across_ascends, joined_ascend}
+use Rattle.fx_sif.proofs.Ascending.{Ascends, CountsFit, number, fits_from, never_from, ascends_append}
+use Rattle.fx_sif.proofs.Ascending.{ascends_higher, ascends_lower, across_ascends, joined_ascend}
 use Rattle.fx_sif.proofs.EntryCounts.{across_count, joined_count}
 use Rattle.fx_space.specs.Matrices.{SpaceFits, matrix_a, matrix_b, matrix_c, matrix_d}
 use Rattle.fx_space.specs.Space.{block_of, space_entries, space_form}

@@ -1,6 +1,7 @@
 -- The form of a state space puts out what its equations put out: row by row both are the same sums, so they are equal
 -- moment by moment.
-use Rattle.std.proofs.Common.{◌≡◌, ◌⊎◌, ℕ, zero, suc, ◌+◌, ◌*◌, ◌<◌, ◌≤◌, true, inl, inr, List, ◌++◌, length, take, drop, All, slice_index_or, refl, arith, sym, ap, ap₂, subst, ◌∙◌}
+use Rattle.std.proofs.Common.{◌≡◌, ◌⊎◌, ℕ, zero, suc, ◌+◌, ◌*◌, ◌<◌, ◌≤◌, true, inl, inr, List, ◌++◌, length}
+use Rattle.std.proofs.Common.{take, drop, All, slice_index_or, refl, arith, sym, ap, ap₂, subst, ◌∙◌}
 use Rattle.std.proofs.Math.IntN.{ℤ, pos, ◌+ℤ◌, ◌*ℤ◌}
 use Rattle.std.proofs.lemmas.Int.{ints}
 use Rattle.std.proofs.lemmas.List.{drop-drop}
@@ -28,7 +29,9 @@ use Rattle.fx_sif.proofs.Denominators.{IsSuited, Suits, across_suits, all_of_bot
 use Rattle.fx_sif.proofs.Earlier.{ago}
 use Rattle.fx_sif.proofs.EntriesOfRow.{InRow, across_in}
 use Rattle.fx_sif.proofs.EquationsAtScale.{EquationsMeet}
-use Rattle.fx_sif.proofs.LagSums.{TermsSuit, column_sum, column_sum-same, kept_whole, lag_sum, lag_sum-append, lag_sum-back, lag_sum-front, lag_sum-kept, lag_sum-other_sources, lag_sum-over_sources, sources_suit}
+use Rattle.fx_sif.proofs.LagSums.{TermsSuit, column_sum, column_sum-same, kept_whole, lag_sum, lag_sum-append}
+use Rattle.fx_sif.proofs.LagSums.{lag_sum-back, lag_sum-front, lag_sum-kept, lag_sum-other_sources}
+use Rattle.fx_sif.proofs.LagSums.{lag_sum-over_sources, sources_suit}
 use Rattle.fx_sif.proofs.OneScale.{RowsMeet, cancelled, no_weight, weight}
 use Rattle.fx_sif.proofs.SystemsFit.{system_fits}
 use Rattle.fx_sif.proofs.RowSums.{adds, adds_both, adds_its_row, adds_no_row, all_across}

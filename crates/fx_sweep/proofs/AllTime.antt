@@ -1,5 +1,6 @@
 -- Bounds for all time, by induction over the moments and, in a moment, over the rows.
-use Rattle.std.proofs.Common.{◌≡◌, ℕ, zero, suc, ◌+◌, ◌*◌, ◌-◌, ◌/◌, ◌^◌, ◌<◌, ◌≤◌, arith, ap, sym, ◌∙◌, subst, inl, inr, lit<}
+use Rattle.std.proofs.Common.{◌≡◌, ℕ, zero, suc, ◌+◌, ◌*◌, ◌-◌, ◌/◌, ◌^◌, ◌<◌, ◌≤◌, arith, ap, sym, ◌∙◌, subst}
+use Rattle.std.proofs.Common.{inl, inr, lit<}
 use Rattle.std.proofs.Math.IntN.{ℤ, pos, ◌*ℤ◌}
 use Rattle.std.proofs.Math.Nat.{le_of_mul-le-mul_left, le_of_mul-le-mul_right, one-le-pow}
 use Rattle.std.specs.Int.Signed.{◌≤ℤ◌}
@@ -26,7 +27,8 @@ use Rattle.fx_sweep.specs.declared.target.Target.TheVariants.{Row}
 use Rattle.fx_sweep.proofs.OneRow.{row_targets}
 
 -- w |z| r ≤ d t and t ≤ x w, with d = g r: so |z| ≤ x g
-scaled_down : (w a d x r g : ℕ) (t : ℤ) → 0 < w → 0 < r → g * r ≡ d → pos (w * (a * r)) ≤ℤ (pos d *ℤ t) → t ≤ℤ (pos x *ℤ pos w) → a ≤ x * g
+scaled_down : (w a d x r g : ℕ) (t : ℤ) → 0 < w → 0 < r → g * r ≡ d → pos (w * (a * r)) ≤ℤ (pos d *ℤ t) →
+    t ≤ℤ (pos x *ℤ pos w) → a ≤ x * g
 scaled_down w a d x r g t hw hr e h k =
     let first : (pos d *ℤ t) ≤ℤ (pos d *ℤ (pos x *ℤ pos w)) = mul-le d t (pos x *ℤ pos w) k in
     let second : w * (a * r) ≤ w * (d * x) = omega (arith, ints, first, h) in
@@ -37,7 +39,8 @@ scaled_down w a d x r g t hw hr e h k =
 
 -- ---- empty rows
 
-nothing_read : (n : ℕ) (c : ℕ → Fraction) (x : ℕ → ℤ) (r : ℕ → ℕ) (q : ℕ) → ((s : ℕ) → c s ≡ zero_fraction) → total n (λ j. over q (c j) *ℤ x j *ℤ pos (r j)) ≡ pos 0
+nothing_read : (n : ℕ) (c : ℕ → Fraction) (x : ℕ → ℤ) (r : ℕ → ℕ) (q : ℕ) → ((s : ℕ) → c s ≡ zero_fraction) →
+    total n (λ j. over q (c j) *ℤ x j *ℤ pos (r j)) ≡ pos 0
 nothing_read n c x r q e =
     total_ext n (λ j. over q (c j) *ℤ x j *ℤ pos (r j)) (λ j. pos 0)
     (λ j l. ap (λ (y : Fraction). over q y *ℤ x j *ℤ pos (r j)) (e j) ∙ nothing (q / 1) (x j) (pos (r j)))
@@ -52,9 +55,12 @@ nothing_read n c x r q e =
 empty_sum : (net : Net) (q : ℕ) (u z : ℕ → ℕ → ℤ) (k i : ℕ) → AreEmpty i 1 net → row_sum net q u z k i ≡ pos 0
 unfolding row_sum
 empty_sum net q u z k i e =
-    let now = nothing_read i (λ j. net.now i j) (z k) (λ j. q ^ (i - j - 1)) q (λ s. e.now i s (omega arith) (omega arith)) in
-    let old = nothing_read net.rows (λ j. net.old i j) (before z k) (λ j. q ^ (net.rows + i - j - 1)) q (λ s. e.old i s (omega arith) (omega arith)) in
-    let input = nothing_read PORTS (λ j. net.input i j) (u k) (λ j. q ^ row_time net k i) q (λ s. e.input i s (omega arith) (omega arith)) in
+    let now = nothing_read i (λ j. net.now i j) (z k) (λ j. q ^ (i - j - 1)) q (λ s.
+    e.now i s (omega arith) (omega arith)) in
+    let old = nothing_read net.rows (λ j. net.old i j) (before z k) (λ j. q ^ (net.rows + i - j - 1)) q (λ s.
+    e.old i s (omega arith) (omega arith)) in
+    let input = nothing_read PORTS (λ j. net.input i j) (u k) (λ j. q ^ row_time net k i) q (λ s.
+    e.input i s (omega arith) (omega arith)) in
     omega (arith, ints, now, old, input)
 
 -- ---- all rows, at all moments
@@ -75,11 +81,13 @@ module _ (net : Net) (q : ℕ) (u z p : ℕ → ℕ → ℤ) (lengths bounds row
   unfolding Holds
   empty_at k i l e =
       let h : 2 * unsigned_abs (p k i) ≤ net.class i * q ^ (row_time net k i + 1) = run.small k i l in
-      let n : net.class i * q ^ (row_time net k i + 1) ≡ 0 = ap (λ x. x * q ^ (row_time net k i + 1)) (e.class i (omega arith) (omega arith)) ∙ omega arith in
+      let n : net.class i * q ^ (row_time net k i + 1) ≡ 0 =
+      ap (λ x. x * q ^ (row_time net k i + 1)) (e.class i (omega arith) (omega arith)) ∙ omega arith in
       let zero_is : unsigned_abs (z k i) ≡ 0 = omega (arith, ints, run.row k i l, empty_sum net q u z k i e, h, n) in
       omega (arith, zero_is)
 
-  known_at : (k i m : ℕ) → ((h j : ℕ) → h < k → j < net.rows → Holds h j) → ((j : ℕ) → j < i → Holds k j) → IsBounded net (Row i) q m k u z bounds rows
+  known_at : (k i m : ℕ) → ((h j : ℕ) → h < k → j < net.rows → Holds h j) → ((j : ℕ) → j < i → Holds k j) →
+      IsBounded net (Row i) q m k u z bounds rows
   unfolding Holds
   known_at k i m earlier here = record {
     words = λ h n j e l r. words h j r;
@@ -95,14 +103,17 @@ module _ (net : Net) (q : ℕ) (u z p : ℕ → ℕ → ℤ) (lengths bounds row
       let t : ℤ = target_total net (start_of (Row i)) (lengths i) bounds rows in
       let r : ℕ = raise net q 0 i in
       let within : pos (unsigned_abs (target_value net (Row i) q z k)) ≤ℤ (pos d *ℤ t) =
-      bound net (Row i) q (lengths i) k u z p bounds rows l den run serves.some (known_at k i (lengths i) earlier here) in
+      bound net (Row i) q (lengths i) k u z p bounds rows l den run serves.some
+      (known_at k i (lengths i) earlier here) in
       let value : unsigned_abs (target_value net (Row i) q z k) ≡ 2 ^ 64 * (unsigned_abs (z k i) * r) =
-      ap unsigned_abs (row_targets net q z k i l) ∙ unsigned_abs-mul one (raised net q z k 0 i) ∙ ap (λ x. 2 ^ 64 * x) (unsigned_abs-mul (z k i) (pos r)) in
+      ap unsigned_abs (row_targets net q z k i l) ∙ unsigned_abs-mul one (raised net q z k 0 i)
+      ∙ ap (λ x. 2 ^ 64 * x) (unsigned_abs-mul (z k i) (pos r)) in
       scaled_down (2 ^ 64) (unsigned_abs (z k i)) d (rows i) r (q ^ (row_time net k i + 1)) t
       (lit< tt) (one-le-pow (0 * net.rows + (net.rows - (i + 1))) q den.positive) (to_den net q k k 0 i (omega arith) l)
       (subst (λ x. pos x ≤ℤ (pos d *ℤ t)) value within) serves.total
 
-  row_at : (k i : ℕ) → i < net.rows → BoundsServe net lengths bounds rows → ((h j : ℕ) → h < k → j < net.rows → Holds h j) →
+  row_at : (k i : ℕ) → i < net.rows → BoundsServe net lengths bounds rows →
+      ((h j : ℕ) → h < k → j < net.rows → Holds h j) →
       ((j : ℕ) → j < i → Holds k j) → Holds k i
   row_at k i l serve earlier here = elim (serve i l) [ inl e ↦ empty_at k i l e | inr s ↦ full_at k i l earlier here s ]
 

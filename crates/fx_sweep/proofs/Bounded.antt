@@ -31,26 +31,33 @@ lagged_past f (suc k) (suc n) i h = lagged_past f k n i (omega arith)
 
 pub raised_past : (net : Net) (q : ℕ) (z : ℕ → ℕ → ℤ) (k n i : ℕ) → k < n → raised net q z k n i ≡ pos 0
 raised_past net q z k n i h =
-    ap (λ x. x *ℤ pos (raise net q n i)) (lagged_past z k n i h) ∙ mul_comm (pos 0) (pos (raise net q n i)) ∙ omega (arith, ints)
+    ap (λ x. x *ℤ pos (raise net q n i)) (lagged_past z k n i h) ∙ mul_comm (pos 0) (pos (raise net q n i))
+    ∙ omega (arith, ints)
 
 -- at the last moment a row has its bound, or nothing is cut off it
-needed : (net : Net) (target : Target) → TargetFits net.rows target → (i : ℕ) → NeedsBound target i ⊎ (width (settled net (start_of target) 0 i) ≡ pos 0)
+needed : (net : Net) (target : Target) → TargetFits net.rows target → (i : ℕ) →
+    NeedsBound target i ⊎ (width (settled net (start_of target) 0 i) ≡ pos 0)
 needed net (Row t) fits i = elim (cases_lt i t) [ inl l ↦ inl l | inr l ↦ inr (starts_are_points net t fits i l) ]
 needed net (Pair code original shift) fits i = inl tt
 
 module _ (net : Net) (target : Target) (q m k : ℕ) (u z p : ℕ → ℕ → ℤ) (bounds rows : ℕ → ℕ)
     (blocks : RunsAreBlocks) (raises : BoundsAreRaised) (fits : TargetFits net.rows target) (den : IsDenominator net q)
     (run : IsRun net q u z p) (some : 0 < m) (known : IsBounded net target q m k u z bounds rows) where
-  value_within : (n i : ℕ) → i < net.rows → ((h : ℕ) → k ≡ h + n → IsWithin net q z h i (rows i)) → unsigned_abs (raised net q z k n i) ≤ rows i * block_den net q k
+  value_within : (n i : ℕ) → i < net.rows → ((h : ℕ) → k ≡ h + n → IsWithin net q z h i (rows i)) →
+      unsigned_abs (raised net q z k n i) ≤ rows i * block_den net q k
   value_within n i l b =
       let once : 1 * unsigned_abs (raised net q z k n i) ≤ rows i * block_den net q k =
-      raises net q 1 (rows i) z k n i l (λ h e. let c : unsigned_abs (z h i) ≤ rows i * q ^ (row_time net h i + 1) = b h e in omega (arith, c)) in
+      raises net q 1 (rows i) z k n i l (λ h e.
+      let c : unsigned_abs (z h i) ≤ rows i * q ^ (row_time net h i + 1) = b h e in omega (arith, c)) in
       omega (arith, once)
 
-  last_within : (i : ℕ) → i < net.rows → NeedsBound target i → unsigned_abs (raised net q z k 0 i) ≤ rows i * block_den net q k
-  last_within i l n = value_within 0 i l (λ h e. subst (λ x. IsWithin net q z x i (rows i)) (let f : k ≡ h = omega (arith, e) in f) (known.at_last i l n))
+  last_within : (i : ℕ) → i < net.rows → NeedsBound target i →
+      unsigned_abs (raised net q z k 0 i) ≤ rows i * block_den net q k
+  last_within i l n = value_within 0 i l (λ h e. subst (λ x. IsWithin net q z x i (rows i)) (let f : k ≡ h =
+      omega (arith, e) in f) (known.at_last i l n))
 
-  earlier_within : (n i : ℕ) → 0 < n → n ≤ m → i < net.rows → unsigned_abs (raised net q z k n i) ≤ rows i * block_den net q k
+  earlier_within : (n i : ℕ) → 0 < n → n ≤ m → i < net.rows →
+      unsigned_abs (raised net q z k n i) ≤ rows i * block_den net q k
   earlier_within n i a b l = value_within n i l (λ h e. known.before h n i e a b l)
 
   known_in_block : InBounds net (start_of target) m (block_den net q k) (raised net q z k) (raised net q p k) rows
@@ -60,35 +67,55 @@ module _ (net : Net) (target : Target) (q m k : ℕ) (u z p : ℕ → ℕ → �
     ordered = λ j. omega (arith, ints);
   }
     where
-      values : (n i : ℕ) → n < m → i < net.rows → (width (settled net (start_of target) n i) ≡ pos 0) ⊎ (unsigned_abs (raised net q z k n i) ≤ rows i * block_den net q k)
+      values : (n i : ℕ) → n < m → i < net.rows →
+          (width (settled net (start_of target) n i) ≡ pos 0) ⊎
+          (unsigned_abs (raised net q z k n i) ≤ rows i * block_den net q k)
       values zero i l r = elim (needed net target fits i) [ inl n ↦ inr (last_within i r n) | inr e ↦ inl e ]
       values (suc n) i l r = inr (earlier_within (suc n) i (omega arith) (omega arith) r)
 
   upper_of_block : UpperSide net (start_of target) m k (block_den net q k) (raised net q z k) (lagged u k) rows
   upper_of_block =
-      upper_side net q (block_den net q k) (raised net q z k) (lagged u k) (raised net q p k) den (blocks net q u z p run k) (start_of target) m k rows known_in_block
+      upper_side net q (block_den net q k) (raised net q z k) (lagged u k) (raised net q p k) den
+      (blocks net q u z p run k) (start_of target) m k rows known_in_block
       (λ i l. earlier_within m i some (omega arith) l) (λ b i l. raised_past net q z k m i b)
 
-  upper_of_turned : UpperSide net (start_of target) m k (block_den net q k) (turned (raised net q z k)) (turned (lagged u k)) rows
+  upper_of_turned : UpperSide net (start_of target) m k (block_den net q k) (turned (raised net q z k))
+      (turned (lagged u k)) rows
   upper_of_turned =
-      upper_side net q (block_den net q k) (turned (raised net q z k)) (turned (lagged u k)) (turned (raised net q p k)) den
-      (block_turned net q (block_den net q k) (raised net q z k) (lagged u k) (raised net q p k) (blocks net q u z p run k)) (start_of target) m k rows
-      (bounds_turned net (start_of target) m (block_den net q k) (raised net q z k) (raised net q p k) rows known_in_block)
+      upper_side net q (block_den net q k) (turned (raised net q z k)) (turned (lagged u k))
+      (turned (raised net q p k)) den
+      (block_turned net q (block_den net q k) (raised net q z k) (lagged u k) (raised net q p k)
+      (blocks net q u z p run k)) (start_of target) m k rows
+      (bounds_turned net (start_of target) m (block_den net q k) (raised net q z k) (raised net q p k) rows
+      known_in_block)
       (λ i l. rw abs_turned (earlier_within m i some (omega arith) l)) (λ b i l. ap neg_ℤ (raised_past net q z k m i b))
 
-  greatest_side : target_value net target q z k ≤ℤ (pos (block_den net q k) *ℤ (greatest_sum net (start_of target) m k u +ℤ slack net (start_of target) m k rows))
+  greatest_side : target_value net target q z k ≤ℤ
+      (pos (block_den net q k) *ℤ
+      (greatest_sum net (start_of target) m k u +ℤ slack net (start_of target) m k rows))
   greatest_side =
-      subst (λ x. target_value net target q z k ≤ℤ (pos (block_den net q k) *ℤ (x +ℤ slack net (start_of target) m k rows))) (greatest_is net (start_of target) m k u)
-      (subst (λ x. x ≤ℤ (pos (block_den net q k) *ℤ (total m (uppers_at net (start_of target) (lagged u k)) +ℤ slack net (start_of target) m k rows)))
+      subst (λ x. target_value net target q z k ≤ℤ
+      (pos (block_den net q k) *ℤ (x +ℤ slack net (start_of target) m k rows)))
+      (greatest_is net (start_of target) m k u)
+      (subst (λ x. x ≤ℤ (pos (block_den net q k) *ℤ
+      (total m (uppers_at net (start_of target) (lagged u k)) +ℤ slack net (start_of target) m k rows)))
       (points_sum net.rows (weights target) (raised net q z k 0))
       upper_of_block)
 
-  least_side : (pos (block_den net q k) *ℤ (least_sum net (start_of target) m k u -ℤ slack net (start_of target) m k rows)) ≤ℤ target_value net target q z k
+  least_side : (pos (block_den net q k) *ℤ
+      (least_sum net (start_of target) m k u -ℤ slack net (start_of target) m k rows)) ≤ℤ target_value net target
+      q z k
   least_side =
-      other_side (block_den net q k) (target_value net target q z k) (least_sum net (start_of target) m k u) (slack net (start_of target) m k rows)
-      (subst (λ x. neg_ℤ (target_value net target q z k) ≤ℤ (pos (block_den net q k) *ℤ (x +ℤ slack net (start_of target) m k rows))) (least_is net (start_of target) m k u)
-      (subst (λ x. x ≤ℤ (pos (block_den net q k) *ℤ (total m (uppers_at net (start_of target) (turned (lagged u k))) +ℤ slack net (start_of target) m k rows)))
-      (points_sum net.rows (weights target) (λ i. neg_ℤ (raised net q z k 0 i)) ∙ total_turned net.rows (weights target) (raised net q z k 0))
+      other_side (block_den net q k) (target_value net target q z k) (least_sum net (start_of target) m k u)
+      (slack net (start_of target) m k rows)
+      (subst (λ x. neg_ℤ (target_value net target q z k) ≤ℤ
+      (pos (block_den net q k) *ℤ (x +ℤ slack net (start_of target) m k rows)))
+      (least_is net (start_of target) m k u)
+      (subst (λ x. x ≤ℤ (pos (block_den net q k) *ℤ
+      (total m (uppers_at net (start_of target) (turned (lagged u k))) +ℤ slack net (start_of target) m k
+      rows)))
+      (points_sum net.rows (weights target) (λ i. neg_ℤ (raised net q z k 0 i))
+      ∙ total_turned net.rows (weights target) (raised net q z k 0))
       upper_of_turned))
 
 pub targets_lie_between : RunsAreBlocks → BoundsAreRaised → TargetsLieBetween

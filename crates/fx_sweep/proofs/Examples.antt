@@ -1,4 +1,5 @@
--- The definitions on small nets: a sweep of 64 moments and its totals are computed, and compared with the numbers worked by hand.
+-- The definitions on small nets: a sweep of 64 moments and its totals are computed, and compared with the numbers
+-- worked by hand.
 use Rattle.std.proofs.Common.{◌≡◌, ℕ, ◌-◌, ◌*◌, ◌^◌, refl, cond, ◌==◌, ◌&&◌, ◌||◌, None, Some}
 use Rattle.std.proofs.Math.IntN.{pos}
 use Rattle.fx_nums.specs.Fraction.{Fraction, zero_fraction, one_fraction}
@@ -22,7 +23,14 @@ over_ten n d = record { num = pos n; den = Ten d }
 
 -- one row that reads its own value of the moment before, so many times, and input 0
 abbrev one_row : Fraction → Net
-one_row c = record { rows = 1; now = λ i j. zero_fraction; old = λ i j. c; input = λ i j. cond (j == 0) one_fraction zero_fraction; class = λ i. 0 }
+one_row c = record {
+  rows = 1;
+  now = λ i j. zero_fraction;
+  old = λ i j. c;
+  input =
+      λ i j. cond (j == 0) one_fraction zero_fraction;
+  class = λ i. 0;
+}
 
 -- two such rows, the first of which is rounded to within half a step
 abbrev two_rows : Fraction → Fraction → Net
@@ -61,7 +69,8 @@ range-not-yet : first_range_in (one_row (over_ten 1000 0)) (start_of (Row 0)) 2 
 unfolding hand_on carry to_input product_down product_up
 range-not-yet = refl
 
-range-example : first_range_in (one_row (over_ten 1000 0)) (start_of (Row 0)) 3 ≡ Some (record { place = Rest 0; value = pos (10 ^ 9 * 2 ^ 64) })
+range-example : first_range_in (one_row (over_ten 1000 0)) (start_of (Row 0)) 3
+    ≡ Some (record { place = Rest 0; value = pos (10 ^ 9 * 2 ^ 64) })
 unfolding hand_on carry to_input product_down product_up
 range-example = refl
 
@@ -78,23 +87,28 @@ abbrev difference : ℕ → Interval
 difference = start_of (Pair 0 1 (pos 0))
 
 -- bounds that are met with nothing to spare
-exact-code : target_total (two_rows (over_two 1 1) (over_two 1 1)) (start_of (Row 0)) 64 hundred (bounded 201 200) ≡ pos (201 * 2 ^ 64)
+exact-code : target_total (two_rows (over_two 1 1) (over_two 1 1)) (start_of (Row 0)) 64 hundred
+    (bounded 201 200) ≡ pos (201 * 2 ^ 64)
 unfolding hand_on carry to_input product_down product_up
 exact-code = refl
 
-exact-original : target_total (two_rows (over_two 1 1) (over_two 1 1)) (start_of (Row 1)) 64 hundred (bounded 201 200) ≡ pos (200 * 2 ^ 64)
+exact-original : target_total (two_rows (over_two 1 1) (over_two 1 1)) (start_of (Row 1)) 64 hundred
+    (bounded 201 200) ≡ pos (200 * 2 ^ 64)
 unfolding hand_on carry to_input product_down product_up
 exact-original = refl
 
-too-small : target_total (two_rows (over_two 1 1) (over_two 1 1)) (start_of (Row 0)) 64 hundred (bounded 200 200) ≡ pos 3707795558815619874815
+too-small : target_total (two_rows (over_two 1 1) (over_two 1 1)) (start_of (Row 0)) 64 hundred
+    (bounded 200 200) ≡ pos 3707795558815619874815
 unfolding hand_on carry to_input product_down product_up
 too-small = refl
 
-pair-example : target_total (two_rows (over_two 1 1) (over_two 1 1)) difference 64 hundred (bounded 201 200) ≡ pos 18446744073709552016
+pair-example : target_total (two_rows (over_two 1 1) (over_two 1 1)) difference 64 hundred (bounded 201 200)
+    ≡ pos 18446744073709552016
 unfolding hand_on carry to_input product_down product_up
 pair-example = refl
 
-short-example : target_total (two_rows (over_two 1 1) (over_two 1 1)) difference 8 hundred (bounded 201 200) ≡ pos 47269781688880726016
+short-example : target_total (two_rows (over_two 1 1) (over_two 1 1)) difference 8 hundred (bounded 201 200)
+    ≡ pos 47269781688880726016
 unfolding hand_on carry to_input product_down product_up
 short-example = refl
 
@@ -111,11 +125,13 @@ widths-part : width_part (two_rows (over_two 819 13) (over_ten 1 1)) difference 
 unfolding hand_on carry to_input product_down product_up
 widths-part = refl
 
-rests-part : rest_part (two_rows (over_two 819 13) (over_ten 1 1)) difference 2 (bounded 112 112) ≡ pos 41310619893397108912
+rests-part : rest_part (two_rows (over_two 819 13) (over_ten 1 1)) difference 2 (bounded 112 112)
+    ≡ pos 41310619893397108912
 unfolding hand_on carry to_input product_down product_up
 rests-part = refl
 
-passes-its-bound : target_total (two_rows (over_two 819 13) (over_ten 1 1)) (start_of (Row 0)) 2 hundred (bounded 111 112) ≡ pos 2059708185323438604288
+passes-its-bound : target_total (two_rows (over_two 819 13) (over_ten 1 1)) (start_of (Row 0)) 2 hundred
+    (bounded 111 112) ≡ pos 2059708185323438604288
 unfolding hand_on carry to_input product_down product_up
 passes-its-bound = refl
 
@@ -128,11 +144,15 @@ average = record {
   now = λ i j. zero_fraction;
   old = λ i j. cond (i == 3 && (j == 0 || (j == 1 || j == 2))) (over_two 1 2)
       (cond (i == 7 && (j == 4 || (j == 5 || j == 6))) (over_ten 25 2)
-      (cond (i == 1 && j == 0 || (i == 2 && j == 1 || (i == 5 && j == 4 || i == 6 && j == 5))) one_fraction zero_fraction));
-  input = λ i j. cond (j == 0) (cond (i == 0 || i == 4) one_fraction (cond (i == 3) (over_two 1 2) (cond (i == 7) (over_ten 25 2) zero_fraction))) zero_fraction;
+      (cond (i == 1 && j == 0 || (i == 2 && j == 1 || (i == 5 && j == 4 || i == 6 && j == 5))) one_fraction
+      zero_fraction));
+  input = λ i j. cond (j == 0)
+      (cond (i == 0 || i == 4) one_fraction
+      (cond (i == 3) (over_two 1 2) (cond (i == 7) (over_ten 25 2) zero_fraction))) zero_fraction;
   class = λ i. cond (i == 3) 1 0;
 }
 
-average-example : target_total average (start_of (Pair 3 7 (pos 0))) 4 hundred (λ i. cond (i == 3) 101 100) ≡ pos (2 ^ 63)
+average-example : target_total average (start_of (Pair 3 7 (pos 0))) 4 hundred (λ i. cond (i == 3) 101 100)
+    ≡ pos (2 ^ 63)
 unfolding hand_on carry to_input product_down product_up
 average-example = refl

@@ -10,7 +10,8 @@ use Rattle.fx_math.specs.Sums.{total}
 use Rattle.fx_net.specs.Net.{Net}
 use Rattle.fx_sweep.specs.Filled.{HoldsTarget}
 use Rattle.fx_sweep.specs.Gains.{row_gain}
-use Rattle.fx_sweep.specs.Kept.{AreEarlierSame, AreUpTo, Kept, KeptFits, greatest_gain, greatest_rounding, greatest_sum_of_widths}
+use Rattle.fx_sweep.specs.Kept.{AreEarlierSame, AreUpTo, Kept, KeptFits, greatest_gain, greatest_rounding}
+use Rattle.fx_sweep.specs.Kept.{greatest_sum_of_widths}
 use Rattle.fx_sweep.specs.Swept.{State, Swept, carried_at, input_gain_at, row_gain_at, whole_in, width_at}
 use Rattle.fx_sweep.specs.Target.{start_of}
 use Rattle.fx_sweep.specs.declared.target.Target.{Target}
@@ -22,7 +23,8 @@ pub record IsLinePut (w t most : ℕ) (before after : List ℤ) (values : ℕ �
   pub earlier : (k : ℕ) → k < t * w → whole_in after k ≡ whole_in before k
   pub fits : AreUpTo most after
 
-pub line_put : (w t place most : ℕ) (before seen put after : List ℤ) (values : ℕ → ℤ) → place ≡ t * w → seen ≡ before → after ≡ put →
+pub line_put : (w t place most : ℕ) (before seen put after : List ℤ) (values : ℕ → ℤ) → place ≡ t * w →
+    seen ≡ before → after ≡ put →
     length put ≡ length seen → ((i : ℕ) → i < w → whole_in put (place + i) ≡ values i) →
     ((k : ℕ) → k < place → whole_in put k ≡ whole_in seen k) → AreUpTo most put → IsLinePut w t most before after values
 line_put w t place most before seen put after values p s a count here earlier fits = rw a (record {
@@ -33,16 +35,29 @@ line_put w t place most before seen put after values p s a count here earlier fi
 })
 
 -- one number is put
-pub one_put : (t most : ℕ) (v : ℤ) (before seen put after : List ℤ) → seen ≡ before → after ≡ put → length put ≡ length seen →
-    whole_in put t ≡ v → ((k : ℕ) → k ≢ t → whole_in put k ≡ whole_in seen k) → AreUpTo most put → IsLinePut 1 t most before after (λ i. v)
+pub one_put : (t most : ℕ) (v : ℤ) (before seen put after : List ℤ) → seen ≡ before → after ≡ put →
+    length put ≡ length seen →
+    whole_in put t ≡ v → ((k : ℕ) → k ≢ t → whole_in put k ≡ whole_in seen k) → AreUpTo most put →
+    IsLinePut 1 t most before after (λ i. v)
 one_put t most v before seen put after s a count here others fits =
     line_put 1 t t most before seen put after (λ i. v) (omega arith) s a count
-    (λ i h. (let e : t + i ≡ t = omega (arith, h) in ap (whole_in put) e ∙ here)) (λ k h. others k (omega (arith, h))) fits
+    (λ i h. (let e : t + i ≡ t = omega (arith, h) in ap (whole_in put) e ∙ here)) (λ k h.
+    others k (omega (arith, h))) fits
 
 -- ---- all four
 
 abbrev pub kept_of : ℕ → ℕ → ℕ → List ℤ → List ℤ → List ℤ → List ℤ → Kept
-kept_of n f l rs gs ws es = record { size = n; filled = f; leading = l; roundings = rs; input_gains = gs; row_widths = ws; row_rests = es }
+kept_of n f l rs gs ws es =
+    record {
+      size = n;
+      filled = f;
+      leading = l;
+      roundings = rs;
+      input_gains = gs;
+      row_widths = ws;
+      row_rests =
+          es;
+    }
 
 module _ (n f l t : ℕ) (rs gs ws es rs2 gs2 ws2 es2 : List ℤ) (v : ℤ) (gains wides rests : ℕ → ℤ)
     (r : IsLinePut 1 t greatest_rounding rs rs2 (λ i. v)) (g : IsLinePut PORTS t greatest_gain gs gs2 gains)
@@ -74,13 +89,16 @@ module _ (n f l t : ℕ) (rs gs ws es rs2 gs2 ws2 es2 : List ℤ) (v : ℤ) (gai
 
   pub kept_holds : (s : State) (net : Net) (target : Target) (m : ℕ) → net.rows ≡ n → Swept s net target m →
       v ≡ ceil_div (total n (λ i. pos (row_gain_at s i * net.class i))) 2 →
-      ((j : ℕ) → gains j ≡ pos (input_gain_at s j)) → ((i : ℕ) → wides i ≡ width_at s i) → ((i : ℕ) → rests i ≡ pos (magnitude (carried_at s i))) →
+      ((j : ℕ) → gains j ≡ pos (input_gain_at s j)) → ((i : ℕ) → wides i ≡ width_at s i) →
+      ((i : ℕ) → rests i ≡ pos (magnitude (carried_at s i))) →
       HoldsTarget (kept_of n f l rs2 gs2 ws2 es2) t net (start_of target) m
   kept_holds s net target m rows swept rounded gs_are ws_are es_are = record {
     rounding_is = (let o : t ≡ t * 1 + 0 = omega arith in ap (whole_in rs2) o ∙ r.here 0 (lit< tt) ∙ rounded
         ∙ ap (λ (x : ℕ → ℕ). ceil_div (total n (λ i. pos (x i * net.class i))) 2) swept.has_row_gains
-        ∙ ap (λ (k : ℕ). ceil_div (total k (λ i. pos (row_gain net (start_of target) m i * net.class i))) 2) (sym rows));
+        ∙ ap (λ (k : ℕ). ceil_div (total k (λ i. pos (row_gain net (start_of target) m i * net.class i))) 2)
+        (sym rows));
     gains_are = λ j k. g.here j k ∙ gs_are j ∙ ap (λ (x : ℕ → ℕ). pos (x j)) swept.has_input_gains;
     widths_are = λ i k. w.here i (omega (arith, rows, k)) ∙ ws_are i ∙ ap (λ (x : ℕ → ℤ). x i) swept.has_widths;
-    rests_are = λ i k. e.here i (omega (arith, rows, k)) ∙ es_are i ∙ ap (λ (x : ℕ → Interval). pos (magnitude (x i))) swept.is_carried;
+    rests_are = λ i k. e.here i (omega (arith, rows, k)) ∙ es_are i
+        ∙ ap (λ (x : ℕ → Interval). pos (magnitude (x i))) swept.is_carried;
   }

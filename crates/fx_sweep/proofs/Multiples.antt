@@ -22,19 +22,22 @@ den_positive (Ten d) = one-le-pow d 10 (omega arith)
 pub multiple_ordered : (w : ℤ) (c : Fraction) → (multiple w c).lo ≤ℤ (multiple w c).hi
 multiple_ordered w c =
     mul_le_back (multiple w c).lo (multiple w c).hi (den_value c.den) (den_positive c.den)
-    (le_trans _ _ _ (down_below w c.num (den_value c.den) (den_positive c.den)) (up_above w c.num (den_value c.den) (den_positive c.den)))
+    (le_trans _ _ _ (down_below w c.num (den_value c.den) (den_positive c.den))
+    (up_above w c.num (den_value c.den) (den_positive c.den)))
 
 -- ---- over a common denominator
 
 lo_step : (q m d : ℕ) (w n f : ℤ) → d * m ≡ q → (pos d *ℤ f) ≤ℤ (w *ℤ n) → (pos q *ℤ f) ≤ℤ (w *ℤ (n *ℤ pos m))
 lo_step q m d w n f e h =
-    let one : pos q *ℤ f ≡ pos m *ℤ (pos d *ℤ f) = ap (λ k. pos k *ℤ f) (omega (arith, e)) ∙ mul_assoc (pos m) (pos d) f in
+    let one : pos q *ℤ f ≡ pos m *ℤ (pos d *ℤ f) = ap (λ k. pos k *ℤ f) (omega (arith, e))
+    ∙ mul_assoc (pos m) (pos d) f in
     let two : w *ℤ (n *ℤ pos m) ≡ pos m *ℤ (w *ℤ n) = sym (mul_assoc w n (pos m)) ∙ mul_comm (w *ℤ n) (pos m) in
     omega (arith, ints, one, two, mul-le m (pos d *ℤ f) (w *ℤ n) h)
 
 hi_step : (q m d : ℕ) (w n f : ℤ) → d * m ≡ q → (w *ℤ n) ≤ℤ (pos d *ℤ f) → (w *ℤ (n *ℤ pos m)) ≤ℤ (pos q *ℤ f)
 hi_step q m d w n f e h =
-    let one : pos q *ℤ f ≡ pos m *ℤ (pos d *ℤ f) = ap (λ k. pos k *ℤ f) (omega (arith, e)) ∙ mul_assoc (pos m) (pos d) f in
+    let one : pos q *ℤ f ≡ pos m *ℤ (pos d *ℤ f) = ap (λ k. pos k *ℤ f) (omega (arith, e))
+    ∙ mul_assoc (pos m) (pos d) f in
     let two : w *ℤ (n *ℤ pos m) ≡ pos m *ℤ (w *ℤ n) = sym (mul_assoc w n (pos m)) ∙ mul_comm (w *ℤ n) (pos m) in
     omega (arith, ints, one, two, mul-le m (w *ℤ n) (pos d *ℤ f) h)
 
@@ -64,7 +67,8 @@ up_zero p num d e =
     up_exact p num d (exact_zero p num e) ∙ ap (λ x. ceil_div x d) e
     ∙ (let none : 0 / d ≡ 0 = omega arith in ap (λ n. neg_ℤ (pos n)) none)
 
-pub ends_are : {a b c d : ℤ} → a ≡ c → b ≡ d → (let x : Interval = record { lo = a; hi = b } in x) ≡ record { lo = c; hi = d }
+pub ends_are : {a b c d : ℤ} → a ≡ c → b ≡ d → (let x : Interval = record { lo = a; hi = b } in x)
+    ≡ record { lo = c; hi = d }
 ends_are p q = λ i. record { lo = p i; hi = q i }
 
 pub multiple_nothing : (w : ℤ) (c : Fraction) → w *ℤ c.num ≡ pos 0 → multiple w c ≡ point (pos 0)

@@ -35,14 +35,18 @@ reads_turned net q i v o u =
       total_turned PORTS (λ j. over q (net.input i j)) u,
     )
 
-row_turned : (q : ℕ) (v p r r' : ℤ) → r' ≡ neg_ℤ r → pos q *ℤ v ≡ r +ℤ pos q *ℤ p → pos q *ℤ neg_ℤ v ≡ r' +ℤ pos q *ℤ neg_ℤ p
+row_turned : (q : ℕ) (v p r r' : ℤ) → r' ≡ neg_ℤ r → pos q *ℤ v ≡ r +ℤ pos q *ℤ p →
+    pos q *ℤ neg_ℤ v ≡ r' +ℤ pos q *ℤ neg_ℤ p
 row_turned q v p r r' e h = omega (arith, ints, e, h, mul-neg (pos q) v, mul-neg (pos q) p)
 
-pub block_turned : (net : Net) (q d : ℕ) (v u p : ℕ → ℕ → ℤ) → IsBlock net q d v u p → IsBlock net q d (turned v) (turned u) (turned p)
+pub block_turned : (net : Net) (q d : ℕ) (v u p : ℕ → ℕ → ℤ) → IsBlock net q d v u p →
+    IsBlock net q d (turned v) (turned u) (turned p)
 block_turned net q d v u p b = record {
   row = λ n i l.
-      (let e : reads net q i (λ j. neg_ℤ (v n j)) (λ j. neg_ℤ (v (suc n) j)) (λ j. neg_ℤ (u n j) *ℤ pos d) ≡ neg_ℤ (reads net q i (v n) (v (suc n)) (λ j. u n j *ℤ pos d)) =
-      ap (λ (f : ℕ → ℤ). reads net q i (λ j. neg_ℤ (v n j)) (λ j. neg_ℤ (v (suc n) j)) f) (fun_ext (λ j. neg-mul (u n j) (pos d)))
+      (let e : reads net q i (λ j. neg_ℤ (v n j)) (λ j. neg_ℤ (v (suc n) j)) (λ j. neg_ℤ (u n j) *ℤ pos d)
+      ≡ neg_ℤ (reads net q i (v n) (v (suc n)) (λ j. u n j *ℤ pos d)) =
+      ap (λ (f : ℕ → ℤ). reads net q i (λ j. neg_ℤ (v n j)) (λ j. neg_ℤ (v (suc n) j)) f)
+      (fun_ext (λ j. neg-mul (u n j) (pos d)))
       ∙ reads_turned net q i (v n) (v (suc n)) (λ j. u n j *ℤ pos d) in
       row_turned q (v n i) (p n i) (reads net q i (v n) (v (suc n)) (λ j. u n j *ℤ pos d))
       (reads net q i (λ j. neg_ℤ (v n j)) (λ j. neg_ℤ (v (suc n) j)) (λ j. neg_ℤ (u n j) *ℤ pos d)) e (b.row n i l));

@@ -20,7 +20,8 @@ nothing_times y z e = ap (λ x. x *ℤ z) e ∙ omega (arith, ints)
 
 only_past : (n t : ℕ) (w : ℤ) (x : ℕ → ℤ) → n ≤ t → total n (λ j. only t w j *ℤ x j) ≡ pos 0
 only_past n t w x h =
-    total_ext n (λ j. only t w j *ℤ x j) (λ j. pos 0) (λ j l. nothing_times (only t w j) (x j) (only_not t j w (omega arith)))
+    total_ext n (λ j. only t w j *ℤ x j) (λ j. pos 0) (λ j l.
+    nothing_times (only t w j) (x j) (only_not t j w (omega arith)))
     ∙ total_zero n
 
 only_at : (n t : ℕ) (w : ℤ) (x : ℕ → ℤ) → t < n → total n (λ j. only t w j *ℤ x j) ≡ w *ℤ x t
@@ -33,9 +34,11 @@ only_at (suc n) t w x h = elim (cases_lt t n) [
       omega (arith, ints, only_past n t w x (omega arith), here))
 ]
 
-total_differs : (n : ℕ) (a b x : ℕ → ℤ) → total n (λ j. (a j -ℤ b j) *ℤ x j) ≡ total n (λ j. a j *ℤ x j) -ℤ total n (λ j. b j *ℤ x j)
+total_differs : (n : ℕ) (a b x : ℕ → ℤ) → total n (λ j. (a j -ℤ b j) *ℤ x j)
+    ≡ total n (λ j. a j *ℤ x j) -ℤ total n (λ j. b j *ℤ x j)
 total_differs zero a b x = refl
-total_differs (suc n) a b x = omega (arith, ints, total_differs n a b x, add-mul (a n) (neg_ℤ (b n)) (x n), neg-mul (b n) (x n))
+total_differs (suc n) a b x =
+    omega (arith, ints, total_differs n a b x, add-mul (a n) (neg_ℤ (b n)) (x n), neg-mul (b n) (x n))
 
 pub row_targets : RowTargets
 row_targets net q z k t l = only_at net.rows t one (raised net q z k 0) l
@@ -43,4 +46,5 @@ row_targets net q z k t l = only_at net.rows t one (raised net q z k 0) l
 pub pair_targets : PairTargets
 pair_targets net q z k code original shift l h =
     total_differs net.rows (only code one) (only original (power shift)) (raised net q z k 0)
-    ∙ ap₂ (λ x y. x -ℤ y) (only_at net.rows code one (raised net q z k 0) l) (only_at net.rows original (power shift) (raised net q z k 0) h)
+    ∙ ap₂ (λ x y. x -ℤ y) (only_at net.rows code one (raised net q z k 0) l)
+    (only_at net.rows original (power shift) (raised net q z k 0) h)

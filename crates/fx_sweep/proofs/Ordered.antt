@@ -15,9 +15,11 @@ use Rattle.fx_sweep.proofs.Multiples.{multiple_ordered}
 
 hand_on_ordered : (net : Net) (n : ℕ) (at : ℕ → Interval) → AreOrdered at → AreOrdered (hand_on net n at)
 hand_on_ordered net n at h j = elim (cases_lt j n) [
-  | inl l ↦ (let m : (multiple (at n).lo (net.now n j)).lo ≤ℤ (multiple (at n).lo (net.now n j)).hi = multiple_ordered (at n).lo (net.now n j) in
+  | inl l ↦ (let m : (multiple (at n).lo (net.now n j)).lo ≤ℤ (multiple (at n).lo (net.now n j)).hi =
+      multiple_ordered (at n).lo (net.now n j) in
       let a : (at j).lo ≤ℤ (at j).hi = h j in
-      let both : (plus (at j) (multiple (at n).lo (net.now n j))).lo ≤ℤ (plus (at j) (multiple (at n).lo (net.now n j))).hi = omega (arith, ints, m, a) in
+      let both : (plus (at j) (multiple (at n).lo (net.now n j))).lo ≤ℤ
+      (plus (at j) (multiple (at n).lo (net.now n j))).hi = omega (arith, ints, m, a) in
       subst (λ (x : Interval). x.lo ≤ℤ x.hi) (sym (hand_on_before net n at j l)) both)
   | inr l ↦ subst (λ (x : Interval). x.lo ≤ℤ x.hi) (sym (hand_on_past net n at j l)) (h j)
 ]
@@ -28,7 +30,8 @@ settle_ordered net (suc n) at h = settle_ordered net n (hand_on net n at) (hand_
 
 taken_ordered : (n : ℕ) (at : ℕ → Interval) (c : ℕ → Fraction) → (taken n at c).lo ≤ℤ (taken n at c).hi
 taken_ordered n at c =
-    total_le n (λ i. (multiple (at i).lo (c i)).lo) (λ i. (multiple (at i).lo (c i)).hi) (λ i l. multiple_ordered (at i).lo (c i))
+    total_le n (λ i. (multiple (at i).lo (c i)).lo) (λ i. (multiple (at i).lo (c i)).hi) (λ i l.
+    multiple_ordered (at i).lo (c i))
 
 carry_ordered : (net : Net) (at : ℕ → Interval) → AreOrdered (carry net at)
 unfolding carry

@@ -35,16 +35,23 @@ taken_longer : (n m : ℕ) (at : ℕ → Interval) (c d : ℕ → Fraction) → 
     ((i : ℕ) → i < n → c i ≡ d i) → ((i : ℕ) → n ≤ i → i < m → d i ≡ zero_fraction) → taken n at c ≡ taken m at d
 taken_longer n m at c d l same none =
     ends_are
-    (total_ext n (λ i. (multiple (at i).lo (c i)).lo) (λ i. (multiple (at i).lo (d i)).lo) (λ i h. ap (λ (x : Fraction). (multiple (at i).lo x).lo) (same i h))
-    ∙ sym (total_shorter n m (λ i. (multiple (at i).lo (d i)).lo) l (λ i a b. ap (λ (x : Interval). x.lo) (coefficient_zero (at i).lo (d i) (none i a b)))))
-    (total_ext n (λ i. (multiple (at i).lo (c i)).hi) (λ i. (multiple (at i).lo (d i)).hi) (λ i h. ap (λ (x : Fraction). (multiple (at i).lo x).hi) (same i h))
-    ∙ sym (total_shorter n m (λ i. (multiple (at i).lo (d i)).hi) l (λ i a b. ap (λ (x : Interval). x.hi) (coefficient_zero (at i).lo (d i) (none i a b)))))
+    (total_ext n (λ i. (multiple (at i).lo (c i)).lo) (λ i. (multiple (at i).lo (d i)).lo) (λ i h.
+    ap (λ (x : Fraction). (multiple (at i).lo x).lo) (same i h))
+    ∙ sym (total_shorter n m (λ i. (multiple (at i).lo (d i)).lo) l (λ i a b.
+    ap (λ (x : Interval). x.lo) (coefficient_zero (at i).lo (d i) (none i a b)))))
+    (total_ext n (λ i. (multiple (at i).lo (c i)).hi) (λ i. (multiple (at i).lo (d i)).hi) (λ i h.
+    ap (λ (x : Fraction). (multiple (at i).lo x).hi) (same i h))
+    ∙ sym (total_shorter n m (λ i. (multiple (at i).lo (d i)).hi) l (λ i a b.
+    ap (λ (x : Interval). x.hi) (coefficient_zero (at i).lo (d i) (none i a b)))))
 
-taken_nothing : (n : ℕ) (at : ℕ → Interval) (c : ℕ → Fraction) → ((i : ℕ) → i < n → c i ≡ zero_fraction) → taken n at c ≡ point (pos 0)
+taken_nothing : (n : ℕ) (at : ℕ → Interval) (c : ℕ → Fraction) → ((i : ℕ) → i < n → c i ≡ zero_fraction) →
+    taken n at c ≡ point (pos 0)
 taken_nothing n at c none =
     ends_are
-    (total_ext n (λ i. (multiple (at i).lo (c i)).lo) (λ i. pos 0) (λ i h. ap (λ (x : Interval). x.lo) (coefficient_zero (at i).lo (c i) (none i h))) ∙ total_zero n)
-    (total_ext n (λ i. (multiple (at i).lo (c i)).hi) (λ i. pos 0) (λ i h. ap (λ (x : Interval). x.hi) (coefficient_zero (at i).lo (c i) (none i h))) ∙ total_zero n)
+    (total_ext n (λ i. (multiple (at i).lo (c i)).lo) (λ i. pos 0) (λ i h.
+    ap (λ (x : Interval). x.lo) (coefficient_zero (at i).lo (c i) (none i h))) ∙ total_zero n)
+    (total_ext n (λ i. (multiple (at i).lo (c i)).hi) (λ i. pos 0) (λ i h.
+    ap (λ (x : Interval). x.hi) (coefficient_zero (at i).lo (c i) (none i h))) ∙ total_zero n)
 
 -- ---- the same intervals
 
@@ -52,7 +59,8 @@ module _ (a b : Net) (pad : IsPadded a b) where
   empty_hands_nothing_on : (n : ℕ) (at : ℕ → Interval) → a.rows ≤ n → n < b.rows → hand_on b n at ≡ at
   empty_hands_nothing_on n at l r = fun_ext (λ j. elim (cases_lt j n) [
     | inl h ↦ hand_on_before b n at j h
-        ∙ ap (plus (at j)) (coefficient_zero (at n).lo (b.now n j) (pad.empty.now n j l (omega (arith, pad.rows)))) ∙ plus_zero (at j)
+        ∙ ap (plus (at j)) (coefficient_zero (at n).lo (b.now n j)
+        (pad.empty.now n j l (omega (arith, pad.rows)))) ∙ plus_zero (at j)
     | inr h ↦ hand_on_past b n at j h
   ])
 
@@ -65,11 +73,13 @@ module _ (a b : Net) (pad : IsPadded a b) where
 
   hand_on_same : (n : ℕ) (at : ℕ → Interval) → n < a.rows → hand_on a n at ≡ hand_on b n at
   unfolding hand_on
-  hand_on_same n at l = fun_ext (λ j. ap (λ (x : Fraction). cond (nat_lt j n) (plus (at j) (multiple (at n).lo x)) (at j)) ((pad.same n l).now j))
+  hand_on_same n at l = fun_ext (λ j.
+      ap (λ (x : Fraction). cond (nat_lt j n) (plus (at j) (multiple (at n).lo x)) (at j)) ((pad.same n l).now j))
 
   settle_same : (n : ℕ) (at : ℕ → Interval) → n ≤ a.rows → settle a n at ≡ settle b n at
   settle_same zero at l = refl
-  settle_same (suc n) at l = ap (settle a n) (hand_on_same n at (omega arith)) ∙ settle_same n (hand_on b n at) (omega arith)
+  settle_same (suc n) at l = ap (settle a n) (hand_on_same n at (omega arith))
+      ∙ settle_same n (hand_on b n at) (omega arith)
 
   settles_same : (at : ℕ → Interval) → settle a a.rows at ≡ settle b b.rows at
   settles_same at = settle_same a.rows at (omega arith) ∙ sym (settle_skips b.rows at pad.rows (omega arith))
@@ -111,9 +121,12 @@ module _ (a b : Net) (pad : IsPadded a b) where
   unfolding carry
   carry_ends at i l = taken_nothing a.rows at (λ r. a.old r i) (λ r h. pad.unread r i h l)
 
-  pub carried_ends : (target : Target) → TargetFits a.rows target → (n i : ℕ) → a.rows ≤ i → carried a (start_of target) n i ≡ point (pos 0)
+  pub carried_ends : (target : Target) → TargetFits a.rows target → (n i : ℕ) → a.rows ≤ i →
+      carried a (start_of target) n i ≡ point (pos 0)
   carried_ends target fits zero i l = start_ends target fits i l
   carried_ends target fits (suc n) i l = carry_ends (settle a a.rows (carried a (start_of target) n)) i l
 
-  pub settled_ends : (target : Target) → TargetFits a.rows target → (n i : ℕ) → a.rows ≤ i → settled a (start_of target) n i ≡ point (pos 0)
-  settled_ends target fits n i l = settle_past a a.rows (carried a (start_of target) n) i l ∙ carried_ends target fits n i l
+  pub settled_ends : (target : Target) → TargetFits a.rows target → (n i : ℕ) → a.rows ≤ i →
+      settled a (start_of target) n i ≡ point (pos 0)
+  settled_ends target fits n i l = settle_past a a.rows (carried a (start_of target) n) i l
+      ∙ carried_ends target fits n i l

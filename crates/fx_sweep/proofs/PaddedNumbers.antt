@@ -1,4 +1,5 @@
--- Empty rows behind a net: its sweep has the same numbers with and without them, and reaches its limit at the same place.
+-- Empty rows behind a net: its sweep has the same numbers with and without them, and reaches its limit at the same
+-- place.
 use Rattle.std.proofs.Common.{◌≡◌, ℕ, zero, suc, ◌+◌, ◌-◌, ◌*◌, ◌<◌, ◌≤◌, arith, refl, ap, ap₂, sym, ◌∙◌}
 use Rattle.std.proofs.Math.IntN.{pos, ◌+ℤ◌, ◌*ℤ◌}
 use Rattle.std.specs.Prelude.{unsigned_abs}
@@ -47,7 +48,8 @@ module _ (a b : Net) (pad : IsPadded a b) where
   widths_same start m i = ap (λ (s : ℕ → ℕ → Interval). total m (λ n. width (s n i))) (settled_all start)
 
   row_gain_same : (start : ℕ → Interval) (m i : ℕ) → row_gain a start m i ≡ row_gain b start m i
-  row_gain_same start m i = ap (λ (s : ℕ → ℕ → Interval). sum_below m (λ n. unsigned_abs (s n i).lo)) (settled_all start)
+  row_gain_same start m i =
+      ap (λ (s : ℕ → ℕ → Interval). sum_below m (λ n. unsigned_abs (s n i).lo)) (settled_all start)
 
   input_gain_same : (start : ℕ → Interval) (m j : ℕ) → input_gain a start m j ≡ input_gain b start m j
   input_gain_same start m j = ap (λ (s : ℕ → ℕ → Interval). sum_below m (λ n. magnitude (s n j))) (inputs_all start)
@@ -61,16 +63,19 @@ module _ (a b : Net) (pad : IsPadded a b) where
   value_same start n (Input j) = input_gain_same start (suc n) j
   value_same start n (Rest i) = rest_same start (suc n) i
 
-  range_same : (target : Target) → TargetFits a.rows target → (n : ℕ) → range_at a (start_of target) n ≡ range_at b (start_of target) n
+  range_same : (target : Target) → TargetFits a.rows target → (n : ℕ) →
+      range_at a (start_of target) n ≡ range_at b (start_of target) n
   range_same target fits n =
       places_shorter (value_at a (start_of target) n) a.rows
       (λ i l. no_magnitude (settled a (start_of target) n i) (settled_ends a b pad target fits n i l))
-      (λ i l. sum_nothing (suc n) (λ k. unsigned_abs (settled a (start_of target) k i).lo) (λ k. no_weight (settled a (start_of target) k i) (settled_ends a b pad target fits k i l)))
+      (λ i l. sum_nothing (suc n) (λ k. unsigned_abs (settled a (start_of target) k i).lo) (λ k.
+      no_weight (settled a (start_of target) k i) (settled_ends a b pad target fits k i l)))
       (λ i l. no_magnitude (carried a (start_of target) (suc n) i) (carried_ends a b pad target fits (suc n) i l))
       b.rows pad.rows
       ∙ ap (λ (value : Place → ℕ). first_range value (places b.rows)) (fun_ext (λ p. value_same (start_of target) n p))
 
-  first_same : (target : Target) → TargetFits a.rows target → (m : ℕ) → first_range_in a (start_of target) m ≡ first_range_in b (start_of target) m
+  first_same : (target : Target) → TargetFits a.rows target → (m : ℕ) →
+      first_range_in a (start_of target) m ≡ first_range_in b (start_of target) m
   first_same target fits zero = refl
   first_same target fits (suc m) = ap₂ option_or (first_same target fits m) (range_same target fits m)
 
@@ -79,8 +84,10 @@ module _ (a b : Net) (pad : IsPadded a b) where
   in_range : (i : ℕ) → i < b.rows → i < a.rows + (b.rows - a.rows)
   in_range i l = omega (arith, pad.rows, l)
 
-  input_part_same : (start : ℕ → Interval) (m : ℕ) (bounds : ℕ → ℕ) → input_part a start m bounds ≡ input_part b start m bounds
-  input_part_same start m bounds = ap (λ (g : ℕ → ℕ). total PORTS (λ j. pos (g j * bounds j))) (fun_ext (λ j. input_gain_same start m j))
+  input_part_same : (start : ℕ → Interval) (m : ℕ) (bounds : ℕ → ℕ) →
+      input_part a start m bounds ≡ input_part b start m bounds
+  input_part_same start m bounds =
+      ap (λ (g : ℕ → ℕ). total PORTS (λ j. pos (g j * bounds j))) (fun_ext (λ j. input_gain_same start m j))
 
   rounding_same : (start : ℕ → Interval) (m : ℕ) → rounding a start m ≡ rounding b start m
   rounding_same start m =
@@ -90,31 +97,39 @@ module _ (a b : Net) (pad : IsPadded a b) where
       ∙ sym (total_shorter a.rows b.rows (λ i. pos (row_gain b start m i * b.class i)) pad.rows
       (λ i l r. ap (λ x. pos (row_gain b start m i * x)) (pad.empty.class i l (in_range i r)) ∙ ap pos (omega arith))))
 
-  widths_end : (target : Target) → TargetFits a.rows target → (m i : ℕ) → a.rows ≤ i → widths b (start_of target) m i ≡ pos 0
+  widths_end : (target : Target) → TargetFits a.rows target → (m i : ℕ) → a.rows ≤ i →
+      widths b (start_of target) m i ≡ pos 0
   widths_end target fits m i l =
       sym (widths_same (start_of target) m i)
-      ∙ total_ext m (λ n. width (settled a (start_of target) n i)) (λ n. pos 0) (λ n h. ap width (settled_ends a b pad target fits n i l) ∙ refl)
+      ∙ total_ext m (λ n. width (settled a (start_of target) n i)) (λ n. pos 0) (λ n h.
+      ap width (settled_ends a b pad target fits n i l) ∙ refl)
       ∙ total_zero m
 
-  width_part_same : (target : Target) → TargetFits a.rows target → (m : ℕ) (rows : ℕ → ℕ) → width_part a (start_of target) m rows ≡ width_part b (start_of target) m rows
+  width_part_same : (target : Target) → TargetFits a.rows target → (m : ℕ) (rows : ℕ → ℕ) →
+      width_part a (start_of target) m rows ≡ width_part b (start_of target) m rows
   width_part_same target fits m rows =
-      total_ext a.rows (λ i. widths a (start_of target) m i *ℤ pos (rows i)) (λ i. widths b (start_of target) m i *ℤ pos (rows i))
+      total_ext a.rows (λ i. widths a (start_of target) m i *ℤ pos (rows i)) (λ i.
+      widths b (start_of target) m i *ℤ pos (rows i))
       (λ i l. ap (λ x. x *ℤ pos (rows i)) (widths_same (start_of target) m i))
       ∙ sym (total_shorter a.rows b.rows (λ i. widths b (start_of target) m i *ℤ pos (rows i)) pad.rows
       (λ i l r. ap (λ x. x *ℤ pos (rows i)) (widths_end target fits m i l) ∙ omega (arith, ints)))
 
   rest_end : (target : Target) → TargetFits a.rows target → (m i : ℕ) → a.rows ≤ i → rest b (start_of target) m i ≡ 0
   rest_end target fits m i l =
-      sym (rest_same (start_of target) m i) ∙ no_magnitude (carried a (start_of target) m i) (carried_ends a b pad target fits m i l)
+      sym (rest_same (start_of target) m i)
+      ∙ no_magnitude (carried a (start_of target) m i) (carried_ends a b pad target fits m i l)
 
-  rest_part_same : (target : Target) → TargetFits a.rows target → (m : ℕ) (rows : ℕ → ℕ) → rest_part a (start_of target) m rows ≡ rest_part b (start_of target) m rows
+  rest_part_same : (target : Target) → TargetFits a.rows target → (m : ℕ) (rows : ℕ → ℕ) →
+      rest_part a (start_of target) m rows ≡ rest_part b (start_of target) m rows
   rest_part_same target fits m rows =
-      total_ext a.rows (λ i. pos (rest a (start_of target) m i * rows i)) (λ i. pos (rest b (start_of target) m i * rows i))
+      total_ext a.rows (λ i. pos (rest a (start_of target) m i * rows i)) (λ i.
+      pos (rest b (start_of target) m i * rows i))
       (λ i l. ap (λ x. pos (x * rows i)) (rest_same (start_of target) m i))
       ∙ sym (total_shorter a.rows b.rows (λ i. pos (rest b (start_of target) m i * rows i)) pad.rows
       (λ i l r. ap (λ x. pos (x * rows i)) (rest_end target fits m i l) ∙ ap pos (omega arith)))
 
-  total_same : (target : Target) → TargetFits a.rows target → (m : ℕ) (bounds rows : ℕ → ℕ) → target_total a (start_of target) m bounds rows ≡ target_total b (start_of target) m bounds rows
+  total_same : (target : Target) → TargetFits a.rows target → (m : ℕ) (bounds rows : ℕ → ℕ) →
+      target_total a (start_of target) m bounds rows ≡ target_total b (start_of target) m bounds rows
   total_same target fits m bounds rows =
       ap₂ (λ x y. x +ℤ y)
       (ap₂ (λ x y. x +ℤ y)

@@ -15,10 +15,12 @@ use Rattle.fx_net.specs.Run.{IsDenominator}
 use Rattle.fx_sweep.proofs.Multiples.{multiple_low, multiple_high}
 use Rattle.fx_sweep.proofs.Sides.{upper, between_ends}
 
-enclosed : (q : ℕ) (w : ℤ) (c : Fraction) (v : ℤ) → IsWholeOver q c → (w *ℤ (over q c *ℤ v)) ≤ℤ (pos q *ℤ upper (multiple w c) v)
+enclosed : (q : ℕ) (w : ℤ) (c : Fraction) (v : ℤ) → IsWholeOver q c →
+    (w *ℤ (over q c *ℤ v)) ≤ℤ (pos q *ℤ upper (multiple w c) v)
 enclosed q w c v e =
     let one : w *ℤ (over q c *ℤ v) ≡ (w *ℤ over q c) *ℤ v = sym (mul_assoc w (over q c) v) in
-    rw one (between_ends q (w *ℤ over q c) (multiple w c).lo (multiple w c).hi v (multiple_low q w c e) (multiple_high q w c e))
+    rw one (between_ends q (w *ℤ over q c) (multiple w c).lo (multiple w c).hi v (multiple_low q w c e)
+    (multiple_high q w c e))
 
 -- a weight times a sum over sources, by the sources' products
 one_side : (q : ℕ) (w : ℤ) (n : ℕ) (c : ℕ → Fraction) (x : ℕ → ℤ) → ((j : ℕ) → j < n → IsWholeOver q (c j)) →
@@ -40,9 +42,22 @@ three_parts : (q : ℕ) (w v a b c p a' b' c' : ℤ) → 0 < q → pos q *ℤ v 
     (w *ℤ v) ≤ℤ (a' +ℤ (b' +ℤ c' +ℤ w *ℤ p))
 three_parts q w v a b c p a' b' c' h e ha hb hc =
     let two : w *ℤ (pos q *ℤ v) ≡ w *ℤ a +ℤ w *ℤ b +ℤ w *ℤ c +ℤ w *ℤ (pos q *ℤ p) =
-    ap (λ x. w *ℤ x) e ∙ (omega (arith, ints, mul-add w (a +ℤ b +ℤ c) (pos q *ℤ p), mul-add w (a +ℤ b) c, mul-add w a b)) in
-    let four : pos q *ℤ (a' +ℤ (b' +ℤ c' +ℤ w *ℤ p)) ≡ pos q *ℤ a' +ℤ (pos q *ℤ b' +ℤ pos q *ℤ c' +ℤ pos q *ℤ (w *ℤ p)) =
-    omega (arith, ints, mul-add (pos q) a' (b' +ℤ c' +ℤ w *ℤ p), mul-add (pos q) (b' +ℤ c') (w *ℤ p), mul-add (pos q) b' c') in
+    ap (λ x. w *ℤ x) e ∙ (omega (
+      arith,
+      ints,
+      mul-add w (a +ℤ b +ℤ c) (pos q *ℤ p),
+      mul-add w (a +ℤ b) c,
+      mul-add w a b,
+    )) in
+    let four : pos q *ℤ (a' +ℤ (b' +ℤ c' +ℤ w *ℤ p))
+    ≡ pos q *ℤ a' +ℤ (pos q *ℤ b' +ℤ pos q *ℤ c' +ℤ pos q *ℤ (w *ℤ p)) =
+    omega (
+      arith,
+      ints,
+      mul-add (pos q) a' (b' +ℤ c' +ℤ w *ℤ p),
+      mul-add (pos q) (b' +ℤ c') (w *ℤ p),
+      mul-add (pos q) b' c',
+    ) in
     mul-le-back q (w *ℤ v) (a' +ℤ (b' +ℤ c' +ℤ w *ℤ p)) h
     (omega (arith, ints, left_comm (pos q) w v, two, left_comm w (pos q) p, four, ha, hb, hc))
 

@@ -1,5 +1,6 @@
 -- The rows of a moment, from the last to the first.
-use Rattle.std.proofs.Common.{◌≡◌, ◌≢◌, ℕ, zero, suc, ◌+◌, ◌-◌, ◌^◌, ◌<◌, ◌≤◌, ◌⊎◌, List, [], ◌∷◌, Option, Some, None, length, get_or, refl, sym, ◌∙◌, ap, subst, inl, inr, arith, unsigned_abs}
+use Rattle.std.proofs.Common.{◌≡◌, ◌≢◌, ℕ, zero, suc, ◌+◌, ◌-◌, ◌^◌, ◌<◌, ◌≤◌, ◌⊎◌, List, [], ◌∷◌, Option, Some}
+use Rattle.std.proofs.Common.{None, length, get_or, refl, sym, ◌∙◌, ap, subst, inl, inr, arith, unsigned_abs}
 use Rattle.std.proofs.Math.IntN.{ℤ, pos, ◌+ℤ◌, ◌-ℤ◌, ◌*ℤ◌}
 use Rattle.std.specs.Int.Signed.{◌≤ℤ◌}
 use mathlib.Core.Path.{fun_ext}
@@ -20,11 +21,15 @@ use Rattle.fx_sweep.proofs.Added.{by_nothing, plus_nothing}
 use Rattle.fx_sweep.proofs.Moments.{hand_on_past, settle_past}
 use Rattle.fx_sweep.proofs.Ranges.{first_some, none_more}
 
-unchanged : (net : Net) (n : ℕ) → NetFits n net → (i : ℕ) (at : ℕ → Interval) (j : ℕ) → i ≤ j → with_multiples (at i).lo (net.now i) at j ≡ at j
-unchanged net n fits i at j h = plus_nothing (at j) _ (by_nothing (at i).lo (net.now i j) (ap (λ (c : Fraction). unsigned_abs c.num) (fits.now_earlier i j h)))
+unchanged : (net : Net) (n : ℕ) → NetFits n net → (i : ℕ) (at : ℕ → Interval) (j : ℕ) → i ≤ j →
+    with_multiples (at i).lo (net.now i) at j ≡ at j
+unchanged net n fits i at j h =
+    plus_nothing (at j) _ (by_nothing (at i).lo (net.now i j)
+    (ap (λ (c : Fraction). unsigned_abs c.num) (fits.now_earlier i j h)))
 
 -- a row takes only earlier ones, so all its multiples are handed on
-handed_on : (net : Net) (n : ℕ) → NetFits n net → (i : ℕ) (at : ℕ → Interval) → with_multiples (at i).lo (net.now i) at ≡ hand_on net i at
+handed_on : (net : Net) (n : ℕ) → NetFits n net → (i : ℕ) (at : ℕ → Interval) →
+    with_multiples (at i).lo (net.now i) at ≡ hand_on net i at
 unfolding hand_on
 handed_on net n fits i at = fun_ext (λ j. by_place j (cases_lt j i))
   where
@@ -33,7 +38,8 @@ handed_on net n fits i at = fun_ext (λ j. by_place j (cases_lt j i))
     by_place j (inr h) = unchanged net n fits i at j h ∙ rw (le-ltb j i h) refl
 
 -- rows i and on are settled, no range was met, and what they add is added
-pub record IsSettling (net : Net) (n i : ℕ) (start at : ℕ → Interval) (old_widths now_widths : ℕ → ℤ) (old_gains now_gains : ℕ → ℕ) : Type 0 where
+pub record IsSettling (net : Net) (n i : ℕ) (start at : ℕ → Interval) (old_widths now_widths : ℕ →
+    ℤ) (old_gains now_gains : ℕ → ℕ) : Type 0 where
   pub left : settle net i at ≡ settle net n start
   pub small : (r : ℕ) → i ≤ r → magnitude (at r) ≤ greatest
   pub widths_done : (r : ℕ) → i ≤ r → now_widths r ≡ old_widths r +ℤ width (at r)
@@ -42,8 +48,10 @@ pub record IsSettling (net : Net) (n i : ℕ) (start at : ℕ → Interval) (old
   pub gains_left : (r : ℕ) → r < i → now_gains r ≡ old_gains r
   pub passed : first_range (row_value (settle net n start) old_gains) (joined (n - i) (row_places n)) ≡ None
 
-pub settling_starts : (net : Net) (n : ℕ) (at : ℕ → Interval) (widths : ℕ → ℤ) (gains : ℕ → ℕ) → ((r : ℕ) → n ≤ r → at r ≡ point (pos 0)) →
-    ((r : ℕ) → n ≤ r → widths r ≡ pos 0) → ((r : ℕ) → n ≤ r → gains r ≡ 0) → IsSettling net n n at at widths widths gains gains
+pub settling_starts : (net : Net) (n : ℕ) (at : ℕ → Interval) (widths : ℕ → ℤ) (gains : ℕ → ℕ) →
+    ((r : ℕ) → n ≤ r → at r ≡ point (pos 0)) →
+    ((r : ℕ) → n ≤ r → widths r ≡ pos 0) → ((r : ℕ) → n ≤ r → gains r ≡ 0) →
+    IsSettling net n n at at widths widths gains gains
 settling_starts net n at widths gains no_at no_widths no_gains = record {
   left = refl;
   small = λ r h. rw (no_at r h) (omega arith);
@@ -59,18 +67,21 @@ abbrev range_of_row : ℕ → Interval → ℕ → Option RangeAt
 range_of_row i x gain = first_range (row_value (λ j. x) (λ j. gain)) (places_of_row i)
 
 -- those of the row that comes next are those of the whole
-row_range : (net : Net) (n i : ℕ) (start at : ℕ → Interval) (a b : ℕ → ℤ) (g h : ℕ → ℕ) → IsSettling net n (suc i) start at a b g h →
+row_range : (net : Net) (n i : ℕ) (start at : ℕ → Interval) (a b : ℕ → ℤ) (g h : ℕ → ℕ) →
+    IsSettling net n (suc i) start at a b g h →
     first_range (row_value at h) (places_of_row i) ≡ first_range (row_value (settle net n start) g) (places_of_row i)
 row_range net n i start at a b g h s =
     let here : at i ≡ settle net n start i =
-    sym (settle_past net i (hand_on net i at) i (omega arith) ∙ hand_on_past net i at i (omega arith)) ∙ ap (λ f. f i) s.left in
+    sym (settle_past net i (hand_on net i at) i (omega arith) ∙ hand_on_past net i at i (omega arith))
+    ∙ ap (λ f. f i) s.left in
     let gain : h i ≡ g i = s.gains_left i (omega arith) in
     ap (λ (x : Interval). range_of_row i x (h i)) here ∙ ap (range_of_row i (settle net n start i)) gain
 
 its_places : (n i : ℕ) → i < n → row_places n (n - suc i) ≡ places_of_row i
 its_places n i h = let e : n - (n - suc i + 1) ≡ i = omega arith in ap places_of_row e
 
-pub settling_more : (net : Net) (n i : ℕ) → NetFits n net → i < n → (start at next : ℕ → Interval) (a b c : ℕ → ℤ) (g h l : ℕ → ℕ) →
+pub settling_more : (net : Net) (n i : ℕ) → NetFits n net → i < n →
+    (start at next : ℕ → Interval) (a b c : ℕ → ℤ) (g h l : ℕ → ℕ) →
     IsSettling net n (suc i) start at a b g h → IsRowAdded i (net.now i) at next b c h l →
     first_range (row_value at h) (places_of_row i) ≡ None → IsSettling net n i start next a c g l
 settling_more net n i fits inside start at next a b c g h l s r none = record {
@@ -83,7 +94,8 @@ settling_more net n i fits inside start at next a b c g h l s r none = record {
   passed =
       (let more : n - i ≡ suc (n - suc i) = omega arith in
       let here : first_range (row_value (settle net n start) g) (row_places n (n - suc i)) ≡ None =
-      ap (first_range (row_value (settle net n start) g)) (its_places n i inside) ∙ sym (row_range net n i start at a b g h s) ∙ none in
+      ap (first_range (row_value (settle net n start) g)) (its_places n i inside)
+      ∙ sym (row_range net n i start at a b g h s) ∙ none in
       rw more (none_more (row_value (settle net n start) g) (row_places n) (n - suc i) s.passed here));
 }
   where
@@ -102,16 +114,20 @@ settling_more net n i fits inside start at next a b c g h l s r none = record {
     by_gains k m (inl e) = rw e (r.gain_here ∙ ap (λ x. x + unsigned_abs (at i).lo) (s.gains_left i (omega arith)))
     by_gains k m (inr ne) = r.gains_else k ne ∙ s.gains_done k (omega (arith, ne))
 
-pub settling_ends : (net : Net) (n i : ℕ) → i < n → (start at : ℕ → Interval) (a b : ℕ → ℤ) (g h : ℕ → ℕ) (x : RangeAt) →
+pub settling_ends : (net : Net) (n i : ℕ) → i < n →
+    (start at : ℕ → Interval) (a b : ℕ → ℤ) (g h : ℕ → ℕ) (x : RangeAt) →
     IsSettling net n (suc i) start at a b g h → first_range (row_value at h) (places_of_row i) ≡ Some x →
     first_range (row_value (settle net n start) g) (joined n (row_places n)) ≡ Some x
 settling_ends net n i inside start at a b g h x s some =
     first_some (row_value (settle net n start) g) (row_places n) (n - suc i) n x (omega arith) s.passed
-    (ap (first_range (row_value (settle net n start) g)) (its_places n i inside) ∙ sym (row_range net n i start at a b g h s) ∙ some)
+    (ap (first_range (row_value (settle net n start) g)) (its_places n i inside)
+    ∙ sym (row_range net n i start at a b g h s) ∙ some)
 
 -- widths of which one has grown
-pub grown_fit : (i b w : ℕ) (old now next : ℕ → ℤ) → ((r : ℕ) → (pos 0 ≤ℤ old r) × (old r ≤ℤ pos b)) → ((r : ℕ) → (pos 0 ≤ℤ now r) × (now r ≤ℤ pos (b + w))) →
-    now i ≡ old i → ((k : ℕ) → k ≢ i → next k ≡ now k) → (now i ≤ℤ next i) × (next i ≤ℤ (now i +ℤ pos w)) → (r : ℕ) → (pos 0 ≤ℤ next r) × (next r ≤ℤ pos (b + w))
+pub grown_fit : (i b w : ℕ) (old now next : ℕ → ℤ) → ((r : ℕ) → (pos 0 ≤ℤ old r) × (old r ≤ℤ pos b)) →
+    ((r : ℕ) → (pos 0 ≤ℤ now r) × (now r ≤ℤ pos (b + w))) →
+    now i ≡ old i → ((k : ℕ) → k ≢ i → next k ≡ now k) → (now i ≤ℤ next i) × (next i ≤ℤ (now i +ℤ pos w)) →
+    (r : ℕ) → (pos 0 ≤ℤ next r) × (next r ≤ℤ pos (b + w))
 grown_fit i b w old now next first fit same others grows r = by_place (cases_eq r i)
   where
     by_place : (r ≡ i) ⊎ (r ≡ i → ⊥) → (pos 0 ≤ℤ next r) × (next r ≤ℤ pos (b + w))

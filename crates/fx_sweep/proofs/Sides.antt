@@ -24,18 +24,33 @@ upper_point w v = omega (arith, ints)
 -- the low end's product, and the width at v where v is positive
 pub upper_split : (a : Interval) (v : ℤ) → upper a v ≡ a.lo *ℤ v +ℤ (a.hi -ℤ a.lo) *ℤ pos (up v)
 upper_split a v =
-    omega (arith, ints, add-mul a.hi (neg_ℤ a.lo) (pos (up v)), ap (λ n. n * up v) (neg_is a.lo).0, ap (λ n. n * up v) (neg_is a.lo).1)
+    omega (
+      arith,
+      ints,
+      add-mul a.hi (neg_ℤ a.lo) (pos (up v)),
+      ap (λ n. n * up v) (neg_is a.lo).0,
+      ap (λ n. n * up v) (neg_is a.lo).1,
+    )
 
 turn : (a b c : ℤ) → a *ℤ (b *ℤ c) ≡ c *ℤ (a *ℤ b)
 turn a b c = sym (mul_assoc a b c) ∙ mul_comm (a *ℤ b) c
 
 -- what lies between f and g times q lies there at each v
-pub between_ends : (q : ℕ) (a f g v : ℤ) → (pos q *ℤ f) ≤ℤ a → a ≤ℤ (pos q *ℤ g) → (a *ℤ v) ≤ℤ (pos q *ℤ upper (record { lo = f; hi = g }) v)
+pub between_ends : (q : ℕ) (a f g v : ℤ) → (pos q *ℤ f) ≤ℤ a → a ≤ℤ (pos q *ℤ g) →
+    (a *ℤ v) ≤ℤ (pos q *ℤ upper (record { lo = f; hi = g }) v)
 between_ends q a f g v lo hi =
     let high : (pos (up v) *ℤ a) ≤ℤ (pos (up v) *ℤ (pos q *ℤ g)) = mul-le (up v) a (pos q *ℤ g) hi in
     let low : (pos (down v) *ℤ (pos q *ℤ f)) ≤ℤ (pos (down v) *ℤ a) = mul-le (down v) (pos q *ℤ f) a lo in
-    let e : pos q *ℤ (g *ℤ pos (up v) -ℤ f *ℤ pos (down v)) ≡ pos (up v) *ℤ (pos q *ℤ g) -ℤ pos (down v) *ℤ (pos q *ℤ f) =
-    omega (arith, ints, mul-add (pos q) (g *ℤ pos (up v)) (neg_ℤ (f *ℤ pos (down v))), mul-neg (pos q) (f *ℤ pos (down v)), turn (pos q) g (pos (up v)), turn (pos q) f (pos (down v))) in
+    let e : pos q *ℤ (g *ℤ pos (up v) -ℤ f *ℤ pos (down v))
+    ≡ pos (up v) *ℤ (pos q *ℤ g) -ℤ pos (down v) *ℤ (pos q *ℤ f) =
+    omega (
+      arith,
+      ints,
+      mul-add (pos q) (g *ℤ pos (up v)) (neg_ℤ (f *ℤ pos (down v))),
+      mul-neg (pos q) (f *ℤ pos (down v)),
+      turn (pos q) g (pos (up v)),
+      turn (pos q) f (pos (down v)),
+    ) in
     omega (arith, ints, high, low, e)
 
 -- it is the greater of the products with the two ends
@@ -52,10 +67,19 @@ factor_out d w x = sym (mul_assoc w (pos x) (pos d)) ∙ mul_comm (w *ℤ pos x)
 pub upper_scaled : (d : ℕ) (a : Interval) (u : ℤ) → upper a (u *ℤ pos d) ≡ pos d *ℤ upper a u
 upper_scaled d a u =
     let hi : a.hi *ℤ pos (up (u *ℤ pos d)) ≡ pos d *ℤ (a.hi *ℤ pos (up u)) =
-    ap (λ n. a.hi *ℤ pos n) (let e : up (u *ℤ pos d) ≡ up u * d = omega (arith, ints) in e) ∙ factor_out d a.hi (up u) in
+    ap (λ n. a.hi *ℤ pos n) (let e : up (u *ℤ pos d) ≡ up u * d = omega (arith, ints) in e)
+    ∙ factor_out d a.hi (up u) in
     let lo : a.lo *ℤ pos (down (u *ℤ pos d)) ≡ pos d *ℤ (a.lo *ℤ pos (down u)) =
-    ap (λ n. a.lo *ℤ pos n) (let e : down (u *ℤ pos d) ≡ down u * d = omega (arith, ints) in e) ∙ factor_out d a.lo (down u) in
-    omega (arith, ints, hi, lo, mul-add (pos d) (a.hi *ℤ pos (up u)) (neg_ℤ (a.lo *ℤ pos (down u))), mul-neg (pos d) (a.lo *ℤ pos (down u)))
+    ap (λ n. a.lo *ℤ pos n) (let e : down (u *ℤ pos d) ≡ down u * d = omega (arith, ints) in e)
+    ∙ factor_out d a.lo (down u) in
+    omega (
+      arith,
+      ints,
+      hi,
+      lo,
+      mul-add (pos d) (a.hi *ℤ pos (up u)) (neg_ℤ (a.lo *ℤ pos (down u))),
+      mul-neg (pos d) (a.lo *ℤ pos (down u)),
+    )
 
 -- ---- sums of intervals
 
@@ -68,4 +92,5 @@ pub uppers_gather : (n m : ℕ) (f : ℕ → ℕ → Interval) (x : ℕ → ℤ)
     total n (λ i. total m (λ j. upper (f i j) (x j))) ≡ total m (λ j. upper (sum_of n (λ i. f i j)) (x j))
 uppers_gather n m f x =
     total_swap n m (λ i j. upper (f i j) (x j))
-    ∙ total_ext m (λ j. total n (λ i. upper (f i j) (x j))) (λ j. upper (sum_of n (λ i. f i j)) (x j)) (λ j l. upper_sum n (λ i. f i j) (x j))
+    ∙ total_ext m (λ j. total n (λ i. upper (f i j) (x j))) (λ j. upper (sum_of n (λ i. f i j)) (x j)) (λ j l.
+    upper_sum n (λ i. f i j) (x j))

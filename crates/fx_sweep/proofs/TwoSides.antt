@@ -17,10 +17,13 @@ use Rattle.fx_sweep.proofs.Negated.{turned}
 use Rattle.fx_sweep.proofs.Ordered.{inputs_ordered}
 use Rattle.fx_sweep.proofs.Sides.{upper, upper_point, upper_is_greater}
 
-pub greatest_is : (net : Net) (start : ℕ → Interval) (m k : ℕ) (u : ℕ → ℕ → ℤ) → total m (uppers_at net start (lagged u k)) ≡ greatest_sum net start m k u
+pub greatest_is : (net : Net) (start : ℕ → Interval) (m k : ℕ) (u : ℕ → ℕ → ℤ) →
+    total m (uppers_at net start (lagged u k)) ≡ greatest_sum net start m k u
 greatest_is net start m k u =
-    total_ext m (uppers_at net start (lagged u k)) (λ n. total PORTS (λ j. greatest_product (inputs net start n j) (lagged u k n j)))
-    (λ n l. total_ext PORTS (λ j. upper (inputs net start n j) (lagged u k n j)) (λ j. greatest_product (inputs net start n j) (lagged u k n j))
+    total_ext m (uppers_at net start (lagged u k)) (λ n.
+    total PORTS (λ j. greatest_product (inputs net start n j) (lagged u k n j)))
+    (λ n l. total_ext PORTS (λ j. upper (inputs net start n j) (lagged u k n j)) (λ j.
+    greatest_product (inputs net start n j) (lagged u k n j))
     (λ j h. upper_is_greater (inputs net start n j) (lagged u k n j) (inputs_ordered net start n j)))
 
 pub total_minus : (n : ℕ) (f g : ℕ → ℤ) → ((i : ℕ) → i < n → f i ≡ neg_ℤ (g i)) → total n f ≡ neg_ℤ (total n g)
@@ -37,10 +40,13 @@ least_turned a u h =
     let high : a.hi *ℤ neg_ℤ u ≡ neg_ℤ (a.hi *ℤ u) = mul-neg a.hi u in
     e ∙ omega (arith, ints, clamps, low, high)
 
-pub least_is : (net : Net) (start : ℕ → Interval) (m k : ℕ) (u : ℕ → ℕ → ℤ) → total m (uppers_at net start (turned (lagged u k))) ≡ neg_ℤ (least_sum net start m k u)
+pub least_is : (net : Net) (start : ℕ → Interval) (m k : ℕ) (u : ℕ → ℕ → ℤ) →
+    total m (uppers_at net start (turned (lagged u k))) ≡ neg_ℤ (least_sum net start m k u)
 least_is net start m k u =
-    total_minus m (uppers_at net start (turned (lagged u k))) (λ n. total PORTS (λ j. least_product (inputs net start n j) (lagged u k n j)))
-    (λ n l. total_minus PORTS (λ j. upper (inputs net start n j) (neg_ℤ (lagged u k n j))) (λ j. least_product (inputs net start n j) (lagged u k n j))
+    total_minus m (uppers_at net start (turned (lagged u k))) (λ n.
+    total PORTS (λ j. least_product (inputs net start n j) (lagged u k n j)))
+    (λ n l. total_minus PORTS (λ j. upper (inputs net start n j) (neg_ℤ (lagged u k n j))) (λ j.
+    least_product (inputs net start n j) (lagged u k n j))
     (λ j h. least_turned (inputs net start n j) (lagged u k n j) (inputs_ordered net start n j)))
 
 pub points_sum : (n : ℕ) (w x : ℕ → ℤ) → total n (λ j. upper (point (w j)) (x j)) ≡ total n (λ j. w j *ℤ x j)
@@ -48,4 +54,12 @@ points_sum n w x = total_ext n (λ j. upper (point (w j)) (x j)) (λ j. w j *ℤ
 
 pub other_side : (d : ℕ) (t l s : ℤ) → neg_ℤ t ≤ℤ (pos d *ℤ (neg_ℤ l +ℤ s)) → (pos d *ℤ (l -ℤ s)) ≤ℤ t
 other_side d t l s h =
-    omega (arith, ints, h, mul-add (pos d) (neg_ℤ l) s, mul-neg (pos d) l, mul-add (pos d) l (neg_ℤ s), mul-neg (pos d) s)
+    omega (
+      arith,
+      ints,
+      h,
+      mul-add (pos d) (neg_ℤ l) s,
+      mul-neg (pos d) l,
+      mul-add (pos d) l (neg_ℤ s),
+      mul-neg (pos d) s,
+    )

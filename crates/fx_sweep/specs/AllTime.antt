@@ -23,9 +23,11 @@ pub record ServesNext (net : Net) (j length : ℕ) (bounds rows : ℕ → ℕ) :
   pub some : 0 < length
   pub total : target_total net (start_of (Row j)) length bounds rows ≤ℤ (pos (rows j) *ℤ one)
 
--- so it is with each row that is not empty, each after as many moments as it likes: bounds that served so far serve the next value too
+-- so it is with each row that is not empty, each after as many moments as it likes: bounds that served so far serve the
+-- next value too
 abbrev pub BoundsServe : Net → (ℕ → ℕ) → (ℕ → ℕ) → (ℕ → ℕ) → Type 0
-BoundsServe net lengths bounds rows = (j : ℕ) → j < net.rows → AreEmpty j 1 net ⊎ ServesNext net j (lengths j) bounds rows
+BoundsServe net lengths bounds rows = (j : ℕ) → j < net.rows →
+    AreEmpty j 1 net ⊎ ServesNext net j (lengths j) bounds rows
 
 -- such bounds hold at all times, in each run with perturbations on words within their bounds
 abbrev pub BoundsHoldForAllTime : Type 0

@@ -46,7 +46,8 @@ abbrev pub least_sum : Net → (ℕ → Interval) → ℕ → ℕ → (ℕ → �
 least_sum net start m k u = total m (λ n. total PORTS (λ j. least_product (inputs net start n j) (lagged u k n j)))
 
 abbrev pub greatest_sum : Net → (ℕ → Interval) → ℕ → ℕ → (ℕ → ℕ → ℤ) → ℤ
-greatest_sum net start m k u = total m (λ n. total PORTS (λ j. greatest_product (inputs net start n j) (lagged u k n j)))
+greatest_sum net start m k u =
+    total m (λ n. total PORTS (λ j. greatest_product (inputs net start n j) (lagged u k n j)))
 
 -- what else may add to the target: roundings, what was cut off, and what lies before the block, where something does
 abbrev pub slack : Net → (ℕ → Interval) → ℕ → ℕ → (ℕ → ℕ) → ℤ

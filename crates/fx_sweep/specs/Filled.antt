@@ -1,5 +1,6 @@
 -- What totals hold of the targets that were swept.
-use Rattle.std.specs.Prelude.{◌≡◌, ℕ, zero, suc, ◌+◌, ◌<◌, ◌≤◌, pos, List, length, slice_index_or, Option, Some, None, option_map, Result, Ok, Err}
+use Rattle.std.specs.Prelude.{◌≡◌, ℕ, zero, suc, ◌+◌, ◌<◌, ◌≤◌, pos, List, length, slice_index_or, Option, Some}
+use Rattle.std.specs.Prelude.{None, option_map, Result, Ok, Err}
 use Rattle.std.specs.Option.{option_or}
 use Rattle.fx_math.specs.Sums.{sum_below}
 use Rattle.fx_eqs.specs.declared.limits.TheConstants.{PORTS}
@@ -45,7 +46,8 @@ pub record AreLeading (n : ℕ) (targets : List Target) : Type 0 where
 -- the range that target t meets within its length, if any
 abbrev pub range_of_target : Net → List Target → List ℕ → ℕ → Option TargetRange
 range_of_target net targets lengths t =
-    option_map (λ (at : RangeAt). record { target = t; at = at }) (first_range_in net (start_of (target_in targets t)) (length_in lengths t))
+    option_map (λ (at : RangeAt). record { target = t; at = at })
+    (first_range_in net (start_of (target_in targets t)) (length_in lengths t))
 
 -- the first of the first n targets that meets one, and that range
 abbrev pub first_target_range : Net → List Target → List ℕ → ℕ → Option TargetRange
@@ -67,14 +69,16 @@ pub record HoldsTarget (k : Kept) (t : ℕ) (net : Net) (start : ℕ → Interva
   pub widths_are : (i : ℕ) → i < net.rows → kept_width k t i ≡ widths net start m i
   pub rests_are : (i : ℕ) → i < net.rows → kept_rest k t i ≡ pos (rest net start m i)
 
--- Totals hold these targets of a net, and for each the numbers after as many moments as its length, of which there are some.
+-- Totals hold these targets of a net, and for each the numbers after as many moments as its length, of which there are
+-- some.
 pub record Filled (k : Kept) (net : Net) (targets : List Target) (lengths : List ℕ) : Type 0 where
   pub size : net.rows ≡ k.size
   pub count : k.filled ≡ length targets
   pub a_length_each : length lengths ≡ length targets
   pub some : (t : ℕ) → t < length targets → 1 ≤ length_in lengths t
   pub leading : AreLeading k.leading targets
-  pub numbers : (t : ℕ) → t < length targets → HoldsTarget k t net (start_of (target_in targets t)) (length_in lengths t)
+  pub numbers : (t : ℕ) → t < length targets →
+      HoldsTarget k t net (start_of (target_in targets t)) (length_in lengths t)
 
 -- the moments of n targets
 abbrev pub moments_of : List ℕ → ℕ → ℕ

@@ -15,4 +15,5 @@ TotalsGrow =
 
 abbrev pub NoTotalIsNegative : Type 0
 NoTotalIsNegative =
-    (net : Net) (start : ℕ → Interval) (m : ℕ) (bounds rows : ℕ → ℕ) → AreOrdered start → pos 0 ≤ℤ target_total net start m bounds rows
+    (net : Net) (start : ℕ → Interval) (m : ℕ) (bounds rows : ℕ → ℕ) → AreOrdered start →
+    pos 0 ≤ℤ target_total net start m bounds rows

@@ -1,13 +1,14 @@
 -- The numbers that totals keep of some targets.
-use Rattle.std.specs.Prelude.{◌≡◌, ℕ, ◌+◌, ◌-◌, ◌*◌, ◌^◌, ◌<◌, ◌≤◌, ℤ, pos, ◌+ℤ◌, ◌*ℤ◌, ◌≤ℤ◌, unsigned_abs, List, length}
+use Rattle.std.specs.Prelude.{◌≡◌, ℕ, ◌+◌, ◌-◌, ◌*◌, ◌^◌, ◌<◌, ◌≤◌, ℤ, pos, ◌+ℤ◌, ◌*ℤ◌, ◌≤ℤ◌, unsigned_abs}
+use Rattle.std.specs.Prelude.{List, length}
 use Rattle.fx_math.specs.Sums.{total}
 use Rattle.fx_eqs.specs.declared.limits.TheConstants.{PORTS}
 use Rattle.fx_nums.specs.declared.limits.TheConstants.{OPERAND_BITS}
 use Rattle.fx_net.specs.declared.limits.TheConstants.{LARGEST_NET}
 use Rattle.fx_sweep.specs.Swept.{whole_in}
 
--- How many rows a net has, how many targets are filled, and how many of these, from the first on, are the rows in order; and
--- target after target its rounding, the gains of the inputs, and the widths and the rests of the rows.
+-- How many rows a net has, how many targets are filled, and how many of these, from the first on, are the rows in
+-- order; and target after target its rounding, the gains of the inputs, and the widths and the rests of the rows.
 pub record Kept : Type 0 where
   pub size : ℕ
   pub filled : ℕ
@@ -33,7 +34,8 @@ kept_rest k t i = whole_in k.row_rests (t * k.size + i)
 -- the total that these numbers give
 abbrev pub kept_total : Kept → ℕ → (ℕ → ℕ) → (ℕ → ℕ) → ℤ
 kept_total k t bounds rows =
-    total PORTS (λ j. kept_gain k t j *ℤ pos (bounds j)) +ℤ kept_rounding k t +ℤ total k.size (λ i. kept_width k t i *ℤ pos (rows i))
+    total PORTS (λ j. kept_gain k t j *ℤ pos (bounds j)) +ℤ kept_rounding k t +ℤ total k.size (λ i.
+    kept_width k t i *ℤ pos (rows i))
     +ℤ total k.size (λ i. kept_rest k t i *ℤ pos (rows i))
 
 -- ---- limits

@@ -32,4 +32,5 @@ pub record HasSameNumbers (a b : Net) (start : ℕ → Interval) (m : ℕ) : Typ
 -- so no number depends on how many empty rows a net has
 abbrev pub EmptyRowsChangeNothing : Type 0
 EmptyRowsChangeNothing =
-    (a b : Net) (target : Target) (m : ℕ) → IsPadded a b → TargetFits a.rows target → HasSameNumbers a b (start_of target) m
+    (a b : Net) (target : Target) (m : ℕ) → IsPadded a b → TargetFits a.rows target →
+    HasSameNumbers a b (start_of target) m

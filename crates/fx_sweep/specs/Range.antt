@@ -28,7 +28,9 @@ places n =
 -- the first of these places whose number reaches the limit
 abbrev pub first_range : (Place → ℕ) → List Place → Option RangeAt
 first_range value [] = None
-first_range value (p ∷ ps) = cond (nat_le (2 ^ OPERAND_BITS) (value p)) (Some (record { place = p; value = pos (value p) })) (first_range value ps)
+first_range value (p ∷ ps) =
+    cond (nat_le (2 ^ OPERAND_BITS) (value p)) (Some (record { place = p; value = pos (value p) }))
+    (first_range value ps)
 
 -- that of moment n
 abbrev pub range_at : Net → (ℕ → Interval) → ℕ → Option RangeAt

@@ -1,5 +1,6 @@
 -- The parts of a moment, and the limits that a sweep keeps.
-use Rattle.std.specs.Prelude.{◌≡◌, ◌≢◌, ℕ, ◌+◌, ◌-◌, ◌*◌, ◌^◌, ◌<◌, ◌≤◌, nat_le, cond, ℤ, pos, ◌+ℤ◌, ◌≤ℤ◌, List, [], ◌∷◌, length, unsigned_abs, Option, Some, None}
+use Rattle.std.specs.Prelude.{◌≡◌, ◌≢◌, ℕ, ◌+◌, ◌-◌, ◌*◌, ◌^◌, ◌<◌, ◌≤◌, nat_le, cond, ℤ, pos, ◌+ℤ◌, ◌≤ℤ◌, List}
+use Rattle.std.specs.Prelude.{[], ◌∷◌, length, unsigned_abs, Option, Some, None}
 use Rattle.std.specs.Option.{option_or}
 use Rattle.fx_math.specs.Sums.{joined}
 use Rattle.fx_eqs.specs.declared.limits.TheConstants.{PORTS}
@@ -95,7 +96,8 @@ rest_places i = Rest i ∷ []
 -- ---- rows
 
 -- What row i adds: its weight to its sources of this moment, its width, and its gain, where neither reached the limit.
-pub record IsRowAdded (i : ℕ) (coefficients : ℕ → Fraction) (at next : ℕ → Interval) (old_widths now_widths : ℕ → ℤ) (old_gains now_gains : ℕ → ℕ) : Type 0 where
+pub record IsRowAdded (i : ℕ) (coefficients : ℕ → Fraction) (at next : ℕ →
+    Interval) (old_widths now_widths : ℕ → ℤ) (old_gains now_gains : ℕ → ℕ) : Type 0 where
   pub handed : next ≡ with_multiples (at i).lo coefficients at
   pub small : magnitude (at i) ≤ greatest
   pub width_here : now_widths i ≡ old_widths i +ℤ width (at i)
@@ -161,4 +163,5 @@ settled_rows net n s = settle net n (interval_in s.carried.items)
 abbrev pub range_in : Net → ℕ → (ℕ → Interval) → (ℕ → ℕ) → (ℕ → ℕ) → Option RangeAt
 range_in net n at row_gains input_gains =
     option_or (first_range (row_value at row_gains) (joined n (row_places n)))
-    (option_or (first_range (input_value (to_input net at) input_gains) (joined PORTS input_places)) (first_range (rest_value (carry net at)) (joined n rest_places)))
+    (option_or (first_range (input_value (to_input net at) input_gains) (joined PORTS input_places))
+    (first_range (rest_value (carry net at)) (joined n rest_places)))

@@ -1,5 +1,6 @@
 -- What a sweep holds after so many moments.
-use Rattle.std.specs.Prelude.{◌≡◌, ⊤, ℕ, zero, suc, ◌+◌, ◌^◌, ◌-◌, min, ℤ, pos, List, slice_index_or, Option, Some, None, Result, Ok, Err}
+use Rattle.std.specs.Prelude.{◌≡◌, ⊤, ℕ, zero, suc, ◌+◌, ◌^◌, ◌-◌, min, ℤ, pos, List, slice_index_or, Option}
+use Rattle.std.specs.Prelude.{Some, None, Result, Ok, Err}
 use Rattle.fx_nums.specs.Interval.{Interval, point}
 use Rattle.fx_net.specs.Net.{Net}
 use Rattle.fx_sweep.specs.Gains.{widths, row_gain, input_gain}
@@ -22,8 +23,8 @@ gain_in xs i = slice_index_or xs i 0
 
 -- ---- a sweep as contracts see it
 
--- how many moments answered Ok since the last start, and how many were made in all; the range that is kept, if any; and the
--- numbers, of each row and each input
+-- how many moments answered Ok since the last start, and how many were made in all; the range that is kept, if any; and
+-- the numbers, of each row and each input
 pub record State : Type 0 where
   pub count : ℕ
   pub made : ℕ

@@ -30,4 +30,5 @@ start_of target j = point (weights target j)
 -- the rows of the target are two of so many, and the shift is small
 abbrev pub TargetFits : ℕ → Target → Type 0
 TargetFits n (Row t) = t < n
-TargetFits n (Pair code original shift) = (code < n) × (original < n) × (code ≡ original → ⊥) × (unsigned_abs shift ≤ unsigned_abs GREATEST_SHIFT)
+TargetFits n (Pair code original shift) = (code < n) × (original < n) × (code ≡ original → ⊥)
+    × (unsigned_abs shift ≤ unsigned_abs GREATEST_SHIFT)

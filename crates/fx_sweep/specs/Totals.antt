@@ -1,4 +1,5 @@
--- The total of a target: a bound of it from what was swept in m moments, for bounds of the inputs' words and of the rows.
+-- The total of a target: a bound of it from what was swept in m moments, for bounds of the inputs' words and of the
+-- rows.
 use Rattle.std.specs.Prelude.{ℕ, ℤ, pos, ◌+ℤ◌, ◌*ℤ◌, ◌*◌}
 use Rattle.fx_math.specs.Division.{ceil_div}
 use Rattle.fx_math.specs.Sums.{total}

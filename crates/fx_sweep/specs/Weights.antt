@@ -1,5 +1,5 @@
--- The sweep of a net backwards in time. Each row has an interval; the low end of a row's interval is its weight, which its
--- sources are handed: rows of the same moment at once, rows of the moment before in the next moment of the sweep.
+-- The sweep of a net backwards in time. Each row has an interval; the low end of a row's interval is its weight, which
+-- its sources are handed: rows of the same moment at once, rows of the moment before in the next moment of the sweep.
 use Rattle.std.specs.Prelude.{ℕ, zero, suc, nat_lt, cond}
 use Rattle.fx_math.specs.Sums.{total}
 use Rattle.fx_nums.specs.Arithmetic.{multiple}

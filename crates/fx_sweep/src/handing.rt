@@ -19,7 +19,8 @@ fn add_multiple(at: &mut [Iv], j: usize, row: Iv, coef: Frac)
     ensures count { length at.new ≡ length at.old }
     ensures here { interval_in at.new j ≡ plus (interval_in at.old j) (multiple row.lo coef) }
     ensures others { (k : ℕ) → k ≢ j → interval_in at.new k ≡ interval_in at.old k }
-    ensures narrow { (b w : ℕ) → IsNarrow b w (interval_in at.old j) → IsNarrow (b + product_bound) (w + product_apart) (interval_in at.new j) }
+    ensures narrow { (b w : ℕ) → IsNarrow b w (interval_in at.old j) →
+        IsNarrow (b + product_bound) (w + product_apart) (interval_in at.new j) }
 {
     let product = Iv::multiple(row.lo(), coef);
     at[j] = at[j].add(product);
@@ -51,7 +52,8 @@ pub fn hand_out(table: &Cross, weights: &[Iv], at: &mut [Iv])
     requires columns { table.now.columns ≤ length at.old }
     requires weights { (i : ℕ) → unsigned_abs (interval_in weights.now i).lo ≤ greatest }
     ensures count { length at.new ≡ length at.old }
-    ensures value { interval_in at.new ≡ (λ j. taken (length weights.now) (interval_in weights.now) (λ i. entry_at table.now i j)) }
+    ensures value { interval_in at.new
+        ≡ (λ j. taken (length weights.now) (interval_in weights.now) (λ i. entry_at table.now i j)) }
     ensures narrow { AreNarrow (length weights.now * product_bound) (length weights.now * product_apart) at.new }
 {
     at.fill(Iv::point(0));

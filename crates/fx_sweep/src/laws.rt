@@ -10,18 +10,18 @@ pub fn intervals_stay_ordered()
     ensures { IntervalsStayOrdered }
 {}
 
-/// A law with nothing to run: the value of a row target is 2^64 times the row's, that of a pair 2^64 times the code row's
-/// less 2^(64 + shift) times the original row's.
+/// A law with nothing to run: the value of a row target is 2^64 times the row's, that of a pair 2^64 times the code
+/// row's less 2^(64 + shift) times the original row's.
 pub fn targets_have_these_values()
     ensures row { RowTargets }
     ensures pair { PairTargets }
 {}
 
-/// A law with nothing to run: at each moment of a run, with any perturbations that the classes of its rows allow, a target
-/// lies between the least and the greatest sum of the words of the moments that were swept, less and more what the
-/// roundings, what was cut off the weights, and what lies before these moments may add. For that the words of these
-/// moments and the rows of the moments before the last have to be within their bounds, and at the last moment itself those
-/// rows before a target row, or for a pair all.
+/// A law with nothing to run: at each moment of a run, with any perturbations that the classes of its rows allow, a
+/// target lies between the least and the greatest sum of the words of the moments that were swept, less and more what
+/// the roundings, what was cut off the weights, and what lies before these moments may add. For that the words of these
+/// moments and the rows of the moments before the last have to be within their bounds, and at the last moment itself
+/// those rows before a target row, or for a pair all.
 pub fn targets_lie_between()
     ensures { TargetsLieBetween }
 {

@@ -1,6 +1,24 @@
 //! The numbers of a sweep, and one moment of it.
 
-ghost use Rattle.std.specs.Prelude.{◌≡◌, ◌≢◌, ℕ, ◌+◌, ◌-◌, ◌*◌, ◌^◌, ◌<◌, ◌≤◌, length, ℤ, pos, ◌+ℤ◌, ◌≤ℤ◌, unsigned_abs, OnOk, IfOk};
+ghost use Rattle.std.specs.Prelude.{
+  ◌≡◌,
+  ◌≢◌,
+  ℕ,
+  ◌+◌,
+  ◌-◌,
+  ◌*◌,
+  ◌^◌,
+  ◌<◌,
+  ◌≤◌,
+  length,
+  ℤ,
+  pos,
+  ◌+ℤ◌,
+  ◌≤ℤ◌,
+  unsigned_abs,
+  OnOk,
+  IfOk,
+};
 ghost use Rattle.std.specs.Option.{option_or};
 ghost use Rattle.fx_eqs.specs.declared.limits.TheConstants.{PORTS};
 ghost use Rattle.fx_math.specs.Sums.{joined};
@@ -9,7 +27,29 @@ ghost use Rattle.fx_net.specs.Tables.{net_of};
 ghost use Rattle.fx_nums.specs.Arithmetic.{width};
 ghost use Rattle.fx_nums.specs.Interval.{IntervalFits, magnitude, point};
 ghost use Rattle.fx_sweep.specs.Range.{first_range};
-ghost use Rattle.fx_sweep.specs.Steps.{AreNarrow, GainsFit, IsNarrow, AreLong, IsRowAdded, WidthsFit, carried_width, greatest, greatest_width, input_places, product_apart, product_bound, input_value, places_of_row, range_in, reached, rest_places, rest_value, row_places, row_value, settled_rows};
+ghost use Rattle.fx_sweep.specs.Steps.{
+  AreNarrow,
+  GainsFit,
+  IsNarrow,
+  AreLong,
+  IsRowAdded,
+  WidthsFit,
+  carried_width,
+  greatest,
+  greatest_width,
+  input_places,
+  product_apart,
+  product_bound,
+  input_value,
+  places_of_row,
+  range_in,
+  reached,
+  rest_places,
+  rest_value,
+  row_places,
+  row_value,
+  settled_rows,
+};
 ghost use Rattle.fx_sweep.specs.Swept.{gain_in, interval_in, range_of, whole_in, no_intervals};
 ghost use Rattle.fx_sweep.specs.Target.{TargetFits, power, start_of};
 ghost use Rattle.fx_sweep.specs.Weights.{carry, settle, to_input};
@@ -92,8 +132,8 @@ fn widen(widths: &mut [i128], i: usize, row: Iv)
     widths[i] += row.width();
 }
 
-// Adds up what row `i` has in this moment, and hands its weight to its sources of this moment; or answers the first of its
-// numbers that reaches the limit.
+// Adds up what row `i` has in this moment, and hands its weight to its sources of this moment; or answers the first of
+// its numbers that reaches the limit.
 fn settle_row(
     table: &Cross,
     i: usize,
@@ -111,12 +151,18 @@ fn settle_row(
     requires near { (interval_in weights.old i).hi ≤ℤ ((interval_in weights.old i).lo +ℤ pos greatest_width) }
     requires widths_fit { WidthsFit (2 ^ 100) widths.old }
     requires gains_fit { GainsFit gains.old }
-    ensures counts { (length weights.new ≡ length weights.old) × (length widths.new ≡ length widths.old) × (length gains.new ≡ length gains.old) }
-    ensures range { range_of result ≡ first_range (row_value (interval_in weights.old) (gain_in gains.old)) (places_of_row i) }
-    ensures added { OnOk result (IsRowAdded i (entry_at table.now i) (interval_in weights.old) (interval_in weights.new) (whole_in widths.old) (whole_in widths.new) (gain_in gains.old) (gain_in gains.new)) }
-    ensures narrow { (b w : ℕ) → AreNarrow b w weights.old → AreNarrow (b + product_bound) (w + product_apart) weights.new }
+    ensures counts { (length weights.new ≡ length weights.old) × (length widths.new ≡ length widths.old)
+        × (length gains.new ≡ length gains.old) }
+    ensures range { range_of result
+        ≡ first_range (row_value (interval_in weights.old) (gain_in gains.old)) (places_of_row i) }
+    ensures added { OnOk result
+        (IsRowAdded i (entry_at table.now i) (interval_in weights.old) (interval_in weights.new)
+        (whole_in widths.old) (whole_in widths.new) (gain_in gains.old) (gain_in gains.new)) }
+    ensures narrow { (b w : ℕ) → AreNarrow b w weights.old →
+        AreNarrow (b + product_bound) (w + product_apart) weights.new }
     ensures widths_else { (k : ℕ) → k ≢ i → whole_in widths.new k ≡ whole_in widths.old k }
-    ensures width_grows { (whole_in widths.old i ≤ℤ whole_in widths.new i) × (whole_in widths.new i ≤ℤ (whole_in widths.old i +ℤ pos greatest_width)) }
+    ensures width_grows { (whole_in widths.old i ≤ℤ whole_in widths.new i)
+        × (whole_in widths.new i ≤ℤ (whole_in widths.old i +ℤ pos greatest_width)) }
     ensures gains_fit { GainsFit gains.new }
 {
     let row = weights[i];
@@ -141,11 +187,15 @@ fn settle_rows<const N: usize>(
     requires widths_fit { WidthsFit (2 ^ 100 - greatest_width) widths.old }
     requires gains_fit { GainsFit gains.old }
     ensures counts { (length weights.new ≡ N) × (length widths.new ≡ N) × (length gains.new ≡ N) }
-    ensures range { range_of result ≡ first_range (row_value (settle (net_of net.now) N (interval_in weights.old)) (gain_in gains.old)) (joined N (row_places N)) }
+    ensures range { range_of result
+        ≡ first_range (row_value (settle (net_of net.now) N (interval_in weights.old)) (gain_in gains.old))
+        (joined N (row_places N)) }
     ensures settled { OnOk result (interval_in weights.new ≡ settle (net_of net.now) N (interval_in weights.old)) }
     ensures small { OnOk result ((i : ℕ) → magnitude (interval_in weights.new i) ≤ greatest) }
-    ensures widths { OnOk result (whole_in widths.new ≡ (λ i. whole_in widths.old i +ℤ width (interval_in weights.new i))) }
-    ensures gains { OnOk result (gain_in gains.new ≡ (λ i. gain_in gains.old i + unsigned_abs (interval_in weights.new i).lo)) }
+    ensures widths { OnOk result (whole_in widths.new ≡ (λ i.
+        whole_in widths.old i +ℤ width (interval_in weights.new i))) }
+    ensures gains { OnOk result (gain_in gains.new ≡ (λ i.
+        gain_in gains.old i + unsigned_abs (interval_in weights.new i).lo)) }
     ensures widths_fit { (b : ℕ) → WidthsFit b widths.old → WidthsFit (b + greatest_width) widths.new }
     ensures gains_fit { GainsFit gains.new }
 {
@@ -163,8 +213,10 @@ fn add_inputs(inputs: &[Iv], gains: &mut [u128]) -> Result<(), RangeAt>
     requires gains { length gains.old ≡ PORTS }
     requires fit { GainsFit gains.old }
     ensures count { length gains.new ≡ PORTS }
-    ensures range { range_of result ≡ first_range (input_value (interval_in inputs.now) (gain_in gains.old)) (joined PORTS input_places) }
-    ensures added { OnOk result (gain_in gains.new ≡ (λ j. gain_in gains.old j + magnitude (interval_in inputs.now j))) }
+    ensures range { range_of result
+        ≡ first_range (input_value (interval_in inputs.now) (gain_in gains.old)) (joined PORTS input_places) }
+    ensures added { OnOk result (gain_in gains.new ≡ (λ j.
+        gain_in gains.old j + magnitude (interval_in inputs.now j))) }
     ensures fit { GainsFit gains.new }
 {
     for j in 0..PORTS {
@@ -176,7 +228,8 @@ fn add_inputs(inputs: &[Iv], gains: &mut [u128]) -> Result<(), RangeAt>
 // Answers the first interval that is carried and reaches the limit.
 fn test_rests(carried: &[Iv]) -> Result<(), RangeAt>
     requires few { length carried.now ≤ 64 }
-    ensures range { range_of result ≡ first_range (rest_value (interval_in carried.now)) (joined (length carried.now) rest_places) }
+    ensures range { range_of result
+        ≡ first_range (rest_value (interval_in carried.now)) (joined (length carried.now) rest_places) }
     ensures small { OnOk result ((i : ℕ) → magnitude (interval_in carried.now i) ≤ greatest) }
 {
     for i in 0..carried.len() {
@@ -202,10 +255,15 @@ fn hand_back<const N: usize>(
     ensures inputs_count { length inputs.new ≡ PORTS }
     ensures gains_count { length gains.new ≡ PORTS }
     ensures carried_count { length carried.new ≡ N }
-    ensures range { range_of result ≡ option_or (first_range (input_value (to_input (net_of net.now) (interval_in weights.now)) (gain_in gains.old)) (joined PORTS input_places)) (first_range (rest_value (carry (net_of net.now) (interval_in weights.now))) (joined N rest_places)) }
+    ensures range { range_of result
+        ≡ option_or (first_range
+        (input_value (to_input (net_of net.now) (interval_in weights.now)) (gain_in gains.old))
+        (joined PORTS input_places))
+        (first_range (rest_value (carry (net_of net.now) (interval_in weights.now))) (joined N rest_places)) }
     ensures inputs { OnOk result (interval_in inputs.new ≡ to_input (net_of net.now) (interval_in weights.now)) }
     ensures carried { OnOk result (interval_in carried.new ≡ carry (net_of net.now) (interval_in weights.now)) }
-    ensures gains { OnOk result (gain_in gains.new ≡ (λ j. gain_in gains.old j + magnitude (to_input (net_of net.now) (interval_in weights.now) j))) }
+    ensures gains { OnOk result (gain_in gains.new ≡ (λ j.
+        gain_in gains.old j + magnitude (to_input (net_of net.now) (interval_in weights.now) j))) }
     ensures narrow { OnOk result (AreNarrow greatest carried_width carried.new) }
     ensures gains_fit { GainsFit gains.new }
 {
@@ -236,12 +294,21 @@ fn turn<const N: usize>(
     requires widths_fit { WidthsFit (2 ^ 100 - greatest_width) widths.old }
     requires row_gains_fit { GainsFit row_gains.old }
     requires input_gains_fit { GainsFit input_gains.old }
-    ensures range { range_of result ≡ range_in (net_of net.now) N (settle (net_of net.now) N (interval_in weights.old)) (gain_in row_gains.old) (gain_in input_gains.old) }
-    ensures carried { OnOk result (interval_in carried.new ≡ carry (net_of net.now) (settle (net_of net.now) N (interval_in weights.old))) }
-    ensures inputs { OnOk result (interval_in inputs.new ≡ to_input (net_of net.now) (settle (net_of net.now) N (interval_in weights.old))) }
-    ensures widths { OnOk result (whole_in widths.new ≡ (λ i. whole_in widths.old i +ℤ width (settle (net_of net.now) N (interval_in weights.old) i))) }
-    ensures row_gains { OnOk result (gain_in row_gains.new ≡ (λ i. gain_in row_gains.old i + unsigned_abs (settle (net_of net.now) N (interval_in weights.old) i).lo)) }
-    ensures input_gains { OnOk result (gain_in input_gains.new ≡ (λ j. gain_in input_gains.old j + magnitude (to_input (net_of net.now) (settle (net_of net.now) N (interval_in weights.old)) j))) }
+    ensures range { range_of result
+        ≡ range_in (net_of net.now) N (settle (net_of net.now) N (interval_in weights.old))
+        (gain_in row_gains.old) (gain_in input_gains.old) }
+    ensures carried { OnOk result (interval_in carried.new
+        ≡ carry (net_of net.now) (settle (net_of net.now) N (interval_in weights.old))) }
+    ensures inputs { OnOk result (interval_in inputs.new
+        ≡ to_input (net_of net.now) (settle (net_of net.now) N (interval_in weights.old))) }
+    ensures widths { OnOk result (whole_in widths.new ≡ (λ i.
+        whole_in widths.old i +ℤ width (settle (net_of net.now) N (interval_in weights.old) i))) }
+    ensures row_gains { OnOk result (gain_in row_gains.new
+        ≡ (λ i. gain_in row_gains.old i
+        + unsigned_abs (settle (net_of net.now) N (interval_in weights.old) i).lo)) }
+    ensures input_gains { OnOk result (gain_in input_gains.new
+        ≡ (λ j. gain_in input_gains.old j
+        + magnitude (to_input (net_of net.now) (settle (net_of net.now) N (interval_in weights.old)) j))) }
     ensures narrow { OnOk result (AreNarrow greatest carried_width carried.new) }
     ensures widths_fit { (b : ℕ) → WidthsFit b widths.old → WidthsFit (b + greatest_width) widths.new }
     ensures row_gains_fit { GainsFit row_gains.new }
@@ -363,15 +430,25 @@ impl Numbers {
         requires widths_fit { WidthsFit (2 ^ 100 - greatest_width) self.old.widths.items }
         requires row_gains_fit { GainsFit self.old.row_gains.items }
         requires input_gains_fit { GainsFit self.old.input_gains.items }
-        ensures range { range_of result ≡ range_in (net_of net.now) N (settled_rows (net_of net.now) N self.old) (gain_in self.old.row_gains.items) (gain_in self.old.input_gains.items) }
-        ensures carried { OnOk result (interval_in self.new.carried.items ≡ carry (net_of net.now) (settled_rows (net_of net.now) N self.old)) }
-        ensures inputs { OnOk result (interval_in self.new.inputs.items ≡ to_input (net_of net.now) (settled_rows (net_of net.now) N self.old)) }
-        ensures widths { OnOk result (whole_in self.new.widths.items ≡ (λ i. whole_in self.old.widths.items i +ℤ width (settled_rows (net_of net.now) N self.old i))) }
-        ensures row_gains { OnOk result (gain_in self.new.row_gains.items ≡ (λ i. gain_in self.old.row_gains.items i + unsigned_abs (settled_rows (net_of net.now) N self.old i).lo)) }
-        ensures input_gains { OnOk result (gain_in self.new.input_gains.items ≡ (λ j. gain_in self.old.input_gains.items j + magnitude (to_input (net_of net.now) (settled_rows (net_of net.now) N self.old) j))) }
+        ensures range { range_of result
+            ≡ range_in (net_of net.now) N (settled_rows (net_of net.now) N self.old)
+            (gain_in self.old.row_gains.items) (gain_in self.old.input_gains.items) }
+        ensures carried { OnOk result (interval_in self.new.carried.items
+            ≡ carry (net_of net.now) (settled_rows (net_of net.now) N self.old)) }
+        ensures inputs { OnOk result (interval_in self.new.inputs.items
+            ≡ to_input (net_of net.now) (settled_rows (net_of net.now) N self.old)) }
+        ensures widths { OnOk result (whole_in self.new.widths.items
+            ≡ (λ i. whole_in self.old.widths.items i +ℤ width (settled_rows (net_of net.now) N self.old i))) }
+        ensures row_gains { OnOk result (gain_in self.new.row_gains.items
+            ≡ (λ i. gain_in self.old.row_gains.items i
+            + unsigned_abs (settled_rows (net_of net.now) N self.old i).lo)) }
+        ensures input_gains { OnOk result (gain_in self.new.input_gains.items
+            ≡ (λ j. gain_in self.old.input_gains.items j
+            + magnitude (to_input (net_of net.now) (settled_rows (net_of net.now) N self.old) j))) }
         ensures long { AreLong N self.new }
         ensures narrow { OnOk result (AreNarrow greatest carried_width self.new.carried.items) }
-        ensures widths_fit { (b : ℕ) → WidthsFit b self.old.widths.items → WidthsFit (b + greatest_width) self.new.widths.items }
+        ensures widths_fit { (b : ℕ) → WidthsFit b self.old.widths.items →
+            WidthsFit (b + greatest_width) self.new.widths.items }
         ensures row_gains_fit { GainsFit self.new.row_gains.items }
         ensures input_gains_fit { GainsFit self.new.input_gains.items }
     {

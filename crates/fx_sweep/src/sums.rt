@@ -4,7 +4,15 @@ ghost use Rattle.std.specs.Prelude.{◌≡◌, ℕ, ◌+◌, ◌-◌, ◌*◌, �
 ghost use Rattle.fx_math.specs.Division.{ceil_div};
 ghost use Rattle.fx_math.specs.Sums.{total};
 ghost use Rattle.fx_net.specs.Tables.{net_of};
-ghost use Rattle.fx_sweep.specs.Kept.{AreBounds, AreUpTo, IsUpTo, bound_in, greatest_bound, greatest_gain, greatest_rounding};
+ghost use Rattle.fx_sweep.specs.Kept.{
+  AreBounds,
+  AreUpTo,
+  IsUpTo,
+  bound_in,
+  greatest_bound,
+  greatest_gain,
+  greatest_rounding,
+};
 ghost use Rattle.fx_sweep.specs.Swept.{row_gain_at, whole_in};
 
 use crate::sweep::Sweep;
@@ -48,7 +56,8 @@ pub fn products(numbers: &[i128], at: usize, bounds: &[i64]) -> i128
     requires few { length bounds.now ≤ 64 }
     requires numbers { AreUpTo greatest_gain numbers.now }
     requires bounds { AreBounds bounds.now }
-    ensures value { result ≡ total (length bounds.now) (λ i. whole_in numbers.now (at + i) *ℤ pos (bound_in bounds.now i)) }
+    ensures value { result ≡ total (length bounds.now) (λ i.
+        whole_in numbers.now (at + i) *ℤ pos (bound_in bounds.now i)) }
     ensures fits { (most : ℕ) → AreUpTo most numbers.now → IsUpTo (length bounds.now * (most * 2 ^ 31)) result }
 {
     let mut all = 0;

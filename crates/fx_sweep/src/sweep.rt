@@ -1,11 +1,40 @@
-ghost use Rattle.std.specs.Prelude.{◌≡◌, ℕ, ◌+◌, ◌*◌, ◌^◌, ◌<◌, ◌≤◌, ℤ, pos, ◌≤ℤ◌, length, IfOk, IfErr, OnOk, Option, Some, None};
+ghost use Rattle.std.specs.Prelude.{
+  ◌≡◌,
+  ℕ,
+  ◌+◌,
+  ◌*◌,
+  ◌^◌,
+  ◌<◌,
+  ◌≤◌,
+  ℤ,
+  pos,
+  ◌≤ℤ◌,
+  length,
+  IfOk,
+  IfErr,
+  OnOk,
+  Option,
+  Some,
+  None,
+};
 ghost use Rattle.fx_eqs.specs.declared.limits.TheConstants.{PORTS};
 ghost use Rattle.fx_net.specs.Net.{Net as AnyNet};
 ghost use Rattle.fx_net.specs.Tables.{net_of};
 ghost use Rattle.fx_nums.specs.Interval.{magnitude};
 ghost use Rattle.fx_nums.specs.declared.limits.TheConstants.{OPERAND_BITS};
 ghost use Rattle.fx_sweep.specs.Range.{range_at};
-ghost use Rattle.fx_sweep.specs.Swept.{IsSameBut, Swept, carried_at, count_after, input_at, input_gain_at, one_more, range_of, row_gain_at, width_at};
+ghost use Rattle.fx_sweep.specs.Swept.{
+  IsSameBut,
+  Swept,
+  carried_at,
+  count_after,
+  input_at,
+  input_gain_at,
+  one_more,
+  range_of,
+  row_gain_at,
+  width_at,
+};
 ghost use Rattle.fx_sweep.specs.Target.{TargetFits, start_of};
 ghost use Rattle.fx_sweep.specs.declared.target.RangeAt.{RangeAt as AnyRange};
 ghost use Rattle.fx_sweep.specs.declared.target.Target.{Target as AnyTarget};
@@ -79,8 +108,10 @@ impl<const N: usize> Sweep<N> {
     /// answer of each further moment, until the next start. At most `GREATEST_LENGTH` moments may answer Ok.
     pub fn moment(&mut self, net: &Net<N>) -> Result<(), RangeAt>
         requires { self.old.count < GREATEST_LENGTH }
-        ensures range { (target : AnyTarget) (m : ℕ) → Swept self.old (net_of net.now) target m → range_of result ≡ range_at (net_of net.now) (start_of target) m }
-        ensures swept { (target : AnyTarget) (m : ℕ) → Swept self.old (net_of net.now) target m → OnOk result (Swept self.new (net_of net.now) target (m + 1)) }
+        ensures range { (target : AnyTarget) (m : ℕ) → Swept self.old (net_of net.now) target m →
+            range_of result ≡ range_at (net_of net.now) (start_of target) m }
+        ensures swept { (target : AnyTarget) (m : ℕ) → Swept self.old (net_of net.now) target m →
+            OnOk result (Swept self.new (net_of net.now) target (m + 1)) }
         ensures kept { self.new.range ≡ range_of result }
         ensures again { (at : AnyRange) → self.old.range ≡ Some at → range_of result ≡ Some at }
         ensures leaves { (at : AnyRange) → self.old.range ≡ Some at → IsSameBut self.old self.new }

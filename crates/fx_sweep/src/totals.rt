@@ -1,10 +1,55 @@
-ghost use Rattle.std.specs.Prelude.{◌≡◌, ℕ, ◌+◌, ◌-◌, ◌*◌, ◌^◌, ◌<◌, ◌≤◌, length, ℤ, pos, ◌*ℤ◌, IfOk, IfErr, OnOk, List, Option, Some, None, option_map};
+ghost use Rattle.std.specs.Prelude.{
+  ◌≡◌,
+  ℕ,
+  ◌+◌,
+  ◌-◌,
+  ◌*◌,
+  ◌^◌,
+  ◌<◌,
+  ◌≤◌,
+  length,
+  ℤ,
+  pos,
+  ◌*ℤ◌,
+  IfOk,
+  IfErr,
+  OnOk,
+  List,
+  Option,
+  Some,
+  None,
+  option_map,
+};
 ghost use Rattle.fx_eqs.specs.declared.limits.TheConstants.{PORTS};
 ghost use Rattle.fx_math.specs.Sums.{total};
 ghost use Rattle.fx_net.specs.Net.{Net as AnyNet};
 ghost use Rattle.fx_net.specs.Tables.{net_of};
-ghost use Rattle.fx_sweep.specs.Filled.{CanBeFilled, Filled, HoldsTarget, first_target_range, length_in, moments_of, range_of_target, target_in, told_by};
-ghost use Rattle.fx_sweep.specs.Kept.{AreBounds, AreEarlierSame, IsUpTo, KeptFits, bound_in, greatest_gain, greatest_rounding, greatest_sum_of_widths, kept_gain, kept_rest, kept_rounding, kept_total, kept_width};
+ghost use Rattle.fx_sweep.specs.Filled.{
+  CanBeFilled,
+  Filled,
+  HoldsTarget,
+  first_target_range,
+  length_in,
+  moments_of,
+  range_of_target,
+  target_in,
+  told_by,
+};
+ghost use Rattle.fx_sweep.specs.Kept.{
+  AreBounds,
+  AreEarlierSame,
+  IsUpTo,
+  KeptFits,
+  bound_in,
+  greatest_gain,
+  greatest_rounding,
+  greatest_sum_of_widths,
+  kept_gain,
+  kept_rest,
+  kept_rounding,
+  kept_total,
+  kept_width,
+};
 ghost use Rattle.fx_sweep.specs.Range.{first_range_in};
 ghost use Rattle.fx_sweep.specs.Swept.{Swept};
 ghost use Rattle.fx_sweep.specs.Target.{TargetFits, start_of};
@@ -71,7 +116,8 @@ impl<const N: usize> Totals<N> {
         requires target { t < N + PORTS }
         ensures size { self.new.size ≡ N }
         ensures filled { self.new.filled ≡ self.old.filled }
-        ensures held { (target : AnyTarget) (m : ℕ) → Swept sweep.now (net_of net.now) target m → HoldsTarget self.new t (net_of net.now) (start_of target) m }
+        ensures held { (target : AnyTarget) (m : ℕ) → Swept sweep.now (net_of net.now) target m →
+            HoldsTarget self.new t (net_of net.now) (start_of target) m }
         ensures earlier { AreEarlierSame t self.old self.new }
     {
         nets_fit(net);
@@ -96,7 +142,8 @@ impl<const N: usize> Totals<N> {
         requires target { TargetFits N target }
         requires short { moments ≤ GREATEST_LENGTH }
         ensures filled { self.new.filled ≡ self.old.filled }
-        ensures range { told_by result ≡ option_map (λ at. record { target = t; at = at }) (first_range_in (net_of net.now) (start_of target) moments) }
+        ensures range { told_by result ≡ option_map (λ at.
+            record { target = t; at = at }) (first_range_in (net_of net.now) (start_of target) moments) }
         ensures held { OnOk result (HoldsTarget self.new t (net_of net.now) (start_of target) moments) }
         ensures earlier { AreEarlierSame t self.old self.new }
         ensures made { sweep.new.made ≤ sweep.old.made + moments }
@@ -125,8 +172,11 @@ impl<const N: usize> Totals<N> {
         requires rows { N ≤ LARGEST_NET }
         ensures size { self.new.size ≡ N }
         ensures filled { self.new.filled ≡ self.old.filled }
-        ensures range { told_by result ≡ first_target_range (net_of net.now) targets.now lengths.now (length targets.now) }
-        ensures held { OnOk result ((t : ℕ) → t < length targets.now → HoldsTarget self.new t (net_of net.now) (start_of (target_in targets.now t)) (length_in lengths.now t)) }
+        ensures range { told_by result
+            ≡ first_target_range (net_of net.now) targets.now lengths.now (length targets.now) }
+        ensures held { OnOk result ((t : ℕ) → t < length targets.now →
+            HoldsTarget self.new t (net_of net.now) (start_of (target_in targets.now t))
+            (length_in lengths.now t)) }
         ensures made { sweep.new.made ≤ sweep.old.made + moments_of lengths.now (length targets.now) }
     {
         nets_fit(net);
@@ -137,9 +187,9 @@ impl<const N: usize> Totals<N> {
         Ok(())
     }
 
-    /// Sweeps each target in order for as many moments as its length, and keeps its numbers; there is one length for each
-    /// target, and at most N + `PORTS` of them. Its error is the first target that meets a range within its length; then
-    /// nothing is filled.
+    /// Sweeps each target in order for as many moments as its length, and keeps its numbers; there is one length for
+    /// each target, and at most N + `PORTS` of them. Its error is the first target that meets a range within its
+    /// length; then nothing is filled.
     pub fn fill(
         &mut self,
         sweep: &mut Sweep<N>,
@@ -148,7 +198,8 @@ impl<const N: usize> Totals<N> {
         lengths: &[u16],
     ) -> Result<(), TargetRange>
         requires { CanBeFilled N targets.now lengths.now }
-        ensures range { told_by result ≡ first_target_range (net_of net.now) targets.now lengths.now (length targets.now) }
+        ensures range { told_by result
+            ≡ first_target_range (net_of net.now) targets.now lengths.now (length targets.now) }
         ensures filled { OnOk result (Filled self.new (net_of net.now) targets.now lengths.now) }
         ensures refused { IfErr result (λ _. self.new.filled ≡ 0) }
         ensures made { sweep.new.made ≤ sweep.old.made + moments_of lengths.now (length targets.now) }
@@ -170,8 +221,8 @@ impl<const N: usize> Totals<N> {
         self.leading
     }
 
-    /// The rounding of the target at place `t` of those that are filled, times 2^64: half of the rows' gains times their
-    /// classes, rounded up. It is at most 2^95.
+    /// The rounding of the target at place `t` of those that are filled, times 2^64: half of the rows' gains times
+    /// their classes, rounded up. It is at most 2^95.
     pub fn rounding(&self, t: usize) -> i128
         requires { t < self.now.filled }
         ensures value { result ≡ kept_rounding self.now t }
@@ -191,7 +242,8 @@ impl<const N: usize> Totals<N> {
         self.input_gains[place_in(t, PORTS, j, N + PORTS)]
     }
 
-    /// The width of row `i`, below N, for the target at place `t` of those that are filled, times 2^64. It is at most 2^76.
+    /// The width of row `i`, below N, for the target at place `t` of those that are filled, times 2^64. It is at most
+    /// 2^76.
     pub fn width(&self, t: usize, i: usize) -> i128
         requires target { t < self.now.filled }
         requires row { i < N }
@@ -201,7 +253,8 @@ impl<const N: usize> Totals<N> {
         self.widths[place_in(t, N, i, N + PORTS)]
     }
 
-    /// The rest of row `i`, below N, for the target at place `t` of those that are filled, times 2^64. It is at most 2^88.
+    /// The rest of row `i`, below N, for the target at place `t` of those that are filled, times 2^64. It is at most
+    /// 2^88.
     pub fn rest(&self, t: usize, i: usize) -> i128
         requires target { t < self.now.filled }
         requires row { i < N }
@@ -244,15 +297,18 @@ impl<const N: usize> Totals<N> {
         products(&self.rests, line_at(t, N, N + PORTS), x)
     }
 
-    /// The total of the target at place `t` of those that are filled, times 2^64, for bounds of the inputs' words and of
-    /// the N rows, each 0 to 2147483647. It is below 2^126.
+    /// The total of the target at place `t` of those that are filled, times 2^64, for bounds of the inputs' words and
+    /// of the N rows, each 0 to 2147483647. It is below 2^126.
     pub fn total(&self, t: usize, bounds: &[i64; PORTS], x: &[i64]) -> i128
         requires target { t < self.now.filled }
         requires bounds { AreBounds bounds.now }
         requires count { length x.now ≡ N }
         requires rows { AreBounds x.now }
         ensures kept { result ≡ kept_total self.now t (bound_in bounds.now) (bound_in x.now) }
-        ensures total { (net : AnyNet) (targets : List AnyTarget) (lengths : List ℕ) → Filled self.now net targets lengths → result ≡ target_total net (start_of (target_in targets t)) (length_in lengths t) (bound_in bounds.now) (bound_in x.now) }
+        ensures total { (net : AnyNet) (targets : List AnyTarget) (lengths : List ℕ) →
+            Filled self.now net targets lengths → result
+            ≡ target_total net (start_of (target_in targets t)) (length_in lengths t) (bound_in bounds.now)
+            (bound_in x.now) }
         ensures fits { IsUpTo (2 ^ 126 - 1) result }
     {
         sum_of_parts(

@@ -1,5 +1,6 @@
 -- Bytes at the front of a text that pass a test, and the classes of bytes.
-use Rattle.std.proofs.Common.{◌≡◌, ◌≤◌, ◌<◌, ◌+◌, ◌^◌, ◌%◌, ℕ, suc, Bool, true, false, List, [], ◌∷◌, ◌++◌, decimal, length, take, refl, ap, arith, inl, inr}
+use Rattle.std.proofs.Common.{◌≡◌, ◌≤◌, ◌<◌, ◌+◌, ◌^◌, ◌%◌, ℕ, suc, Bool, true, false, List, [], ◌∷◌, ◌++◌}
+use Rattle.std.proofs.Common.{decimal, length, take, refl, ap, arith, inl, inr}
 use Rattle.std.proofs.lemmas.Bool.{cases_Bool, and_parts, le-leb}
 use Rattle.std.proofs.lemmas.Bool.Decides.{nat_tests}
 use Rattle.std.proofs.lemmas.Fmt.{decimal_by_steps_wide}
@@ -29,7 +30,8 @@ front_len_le test (c ∷ cs) =
       | inr no_test ↦ rw no_test (omega arith)
     ]
 
-pub front_again : (test : ℕ → Bool) (w rest : List ℕ) → list_all test w ≡ true → begins test rest ≡ false → front_len test (w ++ rest) ≡ length w
+pub front_again : (test : ℕ → Bool) (w rest : List ℕ) → list_all test w ≡ true → begins test rest ≡ false →
+    front_len test (w ++ rest) ≡ length w
 unfolding front_len
 front_again test [] [] all stop = refl
 front_again test [] (c ∷ cs) all stop = rw stop refl
@@ -38,7 +40,8 @@ front_again test (c ∷ w) rest all stop =
     rw parts.0 (ap suc (front_again test w rest parts.1 stop))
 
 -- what follows does not pass, if the front is no longer
-pub front_exact : (test : ℕ → Bool) (w rest : List ℕ) → list_all test w ≡ true → front_len test (w ++ rest) ≡ length w → begins test rest ≡ false
+pub front_exact : (test : ℕ → Bool) (w rest : List ℕ) → list_all test w ≡ true →
+    front_len test (w ++ rest) ≡ length w → begins test rest ≡ false
 unfolding front_len
 front_exact test [] [] all e = refl
 front_exact test [] (c ∷ cs) all e = elim (cases_Bool (test c)) [
@@ -55,7 +58,8 @@ pub front_passes : (test : ℕ → Bool) (w rest : List ℕ) → front_len test 
 unfolding front_len
 front_passes test [] rest e = refl
 front_passes test (c ∷ w) rest e = elim (cases_Bool (test c)) [
-  | inl yes_test ↦ let more : suc (front_len test (w ++ rest)) ≡ suc (length w) = rw yes_test at e in rw yes_test (front_passes test w rest (omega arith))
+  | inl yes_test ↦ let more : suc (front_len test (w ++ rest)) ≡ suc (length w) =
+      rw yes_test at e in rw yes_test (front_passes test w rest (omega arith))
   | inr no_test ↦ let more : 0 ≡ suc (length w) = rw no_test at e in absurd (omega arith)
 ]
 
@@ -86,7 +90,10 @@ pub record IsDigits (ds : List ℕ) : Type 0 where
   pub all : list_all is_digit ds ≡ true
 
 digit_of : (m : ℕ) → m < 10 → is_digit (digit_zero + m) ≡ true
-digit_of m one = rw (le-leb digit_zero (digit_zero + m) (omega arith), le-leb (digit_zero + m) digit_nine (omega arith)) refl
+digit_of m one = rw (
+  le-leb digit_zero (digit_zero + m) (omega arith),
+  le-leb (digit_zero + m) digit_nine (omega arith),
+) refl
 
 begins-append : (ds rest : List ℕ) → begins is_digit ds ≡ true → begins is_digit (ds ++ rest) ≡ true
 begins-append [] rest h = absurd cc

@@ -17,6 +17,7 @@ one_program bytes p q first second =
     cc
 
 -- what is given is whole, where what is read is
-pub whole_given : (given read : Result Code CodeFault) → Gives is_memory (λ (p : Code). p) given read → ((p : Code) → read ≡ Ok p → IsWhole p) → IfOk given (λ p. IsWhole p)
+pub whole_given : (given read : Result Code CodeFault) → Gives is_memory (λ (p : Code). p) given read →
+    ((p : Code) → read ≡ Ok p → IsWhole p) → IfOk given (λ p. IsWhole p)
 whole_given (Ok p) read h whole = whole p h
 whole_given (Err fault) read h whole = tt

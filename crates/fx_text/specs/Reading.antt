@@ -1,5 +1,7 @@
 -- A program as it is read from left to right, with the first fault in the order of the text.
-use Rattle.std.specs.Prelude.{ℕ, zero, suc, ◌+◌, ◌-◌, ◌^◌, ◌==◌, ◌||◌, min, nat_le, ℤ, pos, Bool, true, false, List, [], ◌∷◌, ◌++◌, length, codes, Option, Some, None, option_map, Result, Ok, Err, if◌then◌else◌}
+use Rattle.std.specs.Prelude.{ℕ, zero, suc, ◌+◌, ◌-◌, ◌^◌, ◌==◌, ◌||◌, min, nat_le, ℤ, pos, Bool, true, false}
+use Rattle.std.specs.Prelude.{List, [], ◌∷◌, ◌++◌, length, codes, Option, Some, None, option_map, Result, Ok}
+use Rattle.std.specs.Prelude.{Err, if◌then◌else◌}
 use Rattle.std.specs.Option.{option_or}
 use Rattle.std.specs.List.{list_any}
 use Rattle.std.specs.Str.{bytes_eq}
@@ -12,18 +14,21 @@ use Rattle.fx_code.specs.Limits.{same_source, start_fault, row_fault, output_fau
 use Rattle.fx_code.specs.declared.term.CodeTerm.{CodeTerm}
 use Rattle.fx_code.specs.declared.term.Read.{Read}
 use Rattle.fx_code.specs.declared.term.Read.TheVariants.{Now, Old, In}
-use Rattle.fx_code.specs.declared.fault.LimitOf.TheVariants.{Accumulator, Inputs, Rows, Outputs, InputWidth, Width, Shift, Left, Coefficient, Terms}
+use Rattle.fx_code.specs.declared.fault.LimitOf.TheVariants.{Accumulator, Inputs, Rows, Outputs, InputWidth}
+use Rattle.fx_code.specs.declared.fault.LimitOf.TheVariants.{Width, Shift, Left, Coefficient, Terms}
 use Rattle.fx_code.specs.declared.fault.ProgramFault.{ProgramFault}
 use Rattle.fx_code.specs.declared.fault.ProgramFault.TheVariants as program
 use Rattle.fx_text.specs.declared.fault.CodeFault.{CodeFault}
-use Rattle.fx_text.specs.declared.fault.CodeFault.TheVariants.{Unexpected, Name, Order, Rounding, Limit, Twice, NoMemory}
+use Rattle.fx_text.specs.declared.fault.CodeFault.TheVariants.{Unexpected, Name, Order, Rounding, Limit, Twice}
+use Rattle.fx_text.specs.declared.fault.CodeFault.TheVariants.{NoMemory}
 use Rattle.fx_text.specs.declared.parts.Head.{Head}
 use Rattle.fx_text.specs.declared.term.Place.{Place}
 use Rattle.fx_nums.specs.Signs.{signed}
 use Rattle.fx_text.specs.Tokens.{begins, input_letter, is_letter, old_letter, row_letter}
 use Rattle.fx_math.specs.Faults.{or_fault}
 use Rattle.fx_math.specs.Faults.{◌>>=◌}
-use Rattle.fx_text.specs.TokenReading.{repeated, is_nothing, token_at, expect_at, pair_at, first_line_at, number_at, next_at, index_at, name_number, due_at}
+use Rattle.fx_text.specs.TokenReading.{repeated, is_nothing, token_at, expect_at, pair_at, first_line_at}
+use Rattle.fx_text.specs.TokenReading.{number_at, next_at, index_at, name_number, due_at}
 
 -- ---- the head
 

@@ -4,7 +4,18 @@ ghost use Rattle.std.specs.Prelude.{◌≡◌, ◌≤◌, ◌<◌, ◌+◌, [], 
 ghost use Rattle.fx_code.specs.Code.{IsWhole};
 ghost use Rattle.fx_math.specs.Answers.{Gives};
 ghost use Rattle.fx_text.specs.TokenReading.{is_memory, repeated};
-ghost use Rattle.fx_text.specs.Reading.{inputs_at, input_more, started, with_row, with_output, row_more, output_more, keep_more, body_at, code_in};
+ghost use Rattle.fx_text.specs.Reading.{
+  inputs_at,
+  input_more,
+  started,
+  with_row,
+  with_output,
+  row_more,
+  output_more,
+  keep_more,
+  body_at,
+  code_in,
+};
 ghost use Rattle.fx_text.specs.Laws.{CodeLaw, OneProgram, TermsLaw};
 
 use crate::fault::CodeFault;
@@ -63,7 +74,8 @@ fn with_row(
     shift: u8,
     terms: &[CodeTerm],
 ) -> Result<(), CodeFault>
-    ensures { Gives is_memory (λ _. program.new) result (with_row program.old (record { width = width; shift = shift; terms = terms.now })) }
+    ensures { Gives is_memory (λ _. program.new) result
+        (with_row program.old (record { width = width; shift = shift; terms = terms.now })) }
 {
     program.add_row(width, shift, terms)?;
     Ok(())
@@ -112,7 +124,8 @@ fn rows_at(
     program: &mut Program,
 ) -> Result<usize, CodeFault>
     requires { start ≤ length text.now }
-    ensures gives { Gives is_memory (λ n. (program.new, n)) result (repeated rows (row_more rows text.now) (program.old, start)) }
+    ensures gives { Gives is_memory (λ n. (program.new, n)) result
+        (repeated rows (row_more rows text.now) (program.old, start)) }
     ensures within { IfOk result (λ n. n ≤ length text.now) }
 {
     let mut at = start;
@@ -143,7 +156,8 @@ fn outputs_at(
     program: &mut Program,
 ) -> Result<usize, CodeFault>
     requires { start ≤ length text.now }
-    ensures gives { Gives is_memory (λ n. (program.new, n)) result (repeated count (output_more text.now) (program.old, start)) }
+    ensures gives { Gives is_memory (λ n. (program.new, n)) result
+        (repeated count (output_more text.now) (program.old, start)) }
     ensures within { IfOk result (λ n. n ≤ length text.now) }
 {
     let mut at = start;

@@ -5,7 +5,21 @@ ghost use Rattle.fx_code.specs.Code.{half_place};
 ghost use Rattle.fx_math.specs.Answers.{Gives};
 ghost use Rattle.fx_text.specs.TokenReading.{is_memory};
 ghost use Rattle.fx_nums.specs.Signs.{signed};
-ghost use Rattle.fx_text.specs.Reading.{sign_at, coefficient_at, source_of, is_ahead, checked_source, source_at, term_at, statement_at, terms_at, constant_at, store_begins_at, store_at, checked_constant};
+ghost use Rattle.fx_text.specs.Reading.{
+  sign_at,
+  coefficient_at,
+  source_of,
+  is_ahead,
+  checked_source,
+  source_at,
+  term_at,
+  statement_at,
+  terms_at,
+  constant_at,
+  store_begins_at,
+  store_at,
+  checked_constant,
+};
 
 use crate::fault::CodeFault;
 use crate::token::{

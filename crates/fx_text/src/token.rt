@@ -4,7 +4,25 @@ ghost use Rattle.std.specs.Prelude.{◌≡◌, ◌≤◌, ◌<◌, ◌^◌, ◌+
 ghost use Rattle.fx_nums.specs.Signs.{is_blank, is_digit};
 ghost use Rattle.fx_text.specs.Tokens.{is_letter, is_word, begins};
 ghost use Rattle.fx_math.specs.Answers.{Gives};
-ghost use Rattle.fx_text.specs.TokenReading.{is_memory, front_len, is_zero, is_mark, token_len, token_at, expect_at, pair_at, front_fault, first_line_at, number_at, ranged_at, next_at, writes_digit, index_at, name_number, due_at};
+ghost use Rattle.fx_text.specs.TokenReading.{
+  is_memory,
+  front_len,
+  is_zero,
+  is_mark,
+  token_len,
+  token_at,
+  expect_at,
+  pair_at,
+  front_fault,
+  first_line_at,
+  number_at,
+  ranged_at,
+  next_at,
+  writes_digit,
+  index_at,
+  name_number,
+  due_at,
+};
 
 use crate::fault::CodeFault;
 use fx_code::{CODE_ROWS, LimitOf};

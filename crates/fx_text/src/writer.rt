@@ -5,7 +5,23 @@ ghost use Rattle.std.specs.String.{string_bytes};
 ghost use Rattle.fx_code.specs.Code.{IsWhole, row_at, half_place};
 ghost use Rattle.fx_text.specs.Reading.{code_in};
 ghost use Rattle.fx_text.specs.Grammar.{Spells, first_line};
-ghost use Rattle.fx_text.specs.Writing.{code_text, head_line, input_line, input_lines, constant_line, source_text, term_line, term_lines, store_line, row_lines, rows_lines, output_line, output_lines, keep_line, keep_lines};
+ghost use Rattle.fx_text.specs.Writing.{
+  code_text,
+  head_line,
+  input_line,
+  input_lines,
+  constant_line,
+  source_text,
+  term_line,
+  term_lines,
+  store_line,
+  row_lines,
+  rows_lines,
+  output_line,
+  output_lines,
+  keep_line,
+  keep_lines,
+};
 
 use crate::token::FIRST_LINE;
 use fx_code::{CodeTerm, Program, Read, programs_fit};

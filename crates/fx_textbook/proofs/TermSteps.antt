@@ -1,5 +1,6 @@
 -- The terms of one section, or of one row of two matrices, and those of the others.
-use Rattle.std.proofs.Common.{◌≡◌, ℕ, zero, suc, ◌+◌, ◌-◌, ◌*◌, ◌<◌, length, All, List, [], ◌∷◌, ◌++◌, take, drop, refl, arith, ap, sym, ◌∙◌, append_assoc}
+use Rattle.std.proofs.Common.{◌≡◌, ℕ, zero, suc, ◌+◌, ◌-◌, ◌*◌, ◌<◌, length, All, List, [], ◌∷◌, ◌++◌, take}
+use Rattle.std.proofs.Common.{drop, refl, arith, ap, sym, ◌∙◌, append_assoc}
 use Rattle.std.proofs.lemmas.List.Elements.{All-nil, All-cons}
 use Rattle.fx_nums.specs.Fraction.{Fraction}
 use Rattle.fx_eqs.specs.Textbook.{matrix_rows, over_sources, recursion, sections, up_from}
@@ -14,12 +15,15 @@ three_twice (a ∷ b ∷ []) = refl
 three_twice (a ∷ b ∷ c ∷ cs) = refl
 
 pub next_section : (count row : ℕ) (from : Source) (cs : List Fraction) → 0 < count →
-    sections count row from cs ≡ recursion row from (take 3 cs) (take 3 (drop 3 cs)) ++ sections (count - 1) (row + 1) (Row row) (drop 3 (drop 3 cs))
+    sections count row from cs
+    ≡ recursion row from (take 3 cs) (take 3 (drop 3 cs)) ++ sections (count - 1) (row + 1) (Row row)
+    (drop 3 (drop 3 cs))
 next_section zero row from cs h = absurd (omega arith)
 next_section (suc count) row from cs h = let e : suc count - 1 ≡ count = omega arith in rw (e, three_twice cs) refl
 
 pub next_row : (count row n m : ℕ) (x u : List Fraction) → 0 < count →
-    matrix_rows count row n m x u ≡ over_sources row (λ j. Row j) 1 0 (take n x) ++ over_sources row (λ j. In j) 0 0 (take m u) ++ matrix_rows (count - 1) (row + 1) n m (drop n x) (drop m u)
+    matrix_rows count row n m x u ≡ over_sources row (λ j. Row j) 1 0 (take n x) ++ over_sources row (λ j.
+    In j) 0 0 (take m u) ++ matrix_rows (count - 1) (row + 1) n m (drop n x) (drop m u)
 next_row zero row n m x u h = absurd (omega arith)
 next_row (suc count) row n m x u h = let e : suc count - 1 ≡ count = omega arith in rw e refl
 
@@ -39,7 +43,8 @@ up_one first (suc count) =
 
 -- grouped from the left
 pub regrouped : {A : Type 0} (o a b r : List A) → o ++ (a ++ b ++ r) ≡ o ++ a ++ b ++ r
-regrouped o a b r = ap (λ t. o ++ t) (append_assoc a b r) ∙ sym (append_assoc o a (b ++ r)) ∙ sym (append_assoc (o ++ a) b r)
+regrouped o a b r = ap (λ t. o ++ t) (append_assoc a b r) ∙ sym (append_assoc o a (b ++ r))
+    ∙ sym (append_assoc (o ++ a) b r)
 
 -- ---- the numbers from one on
 

@@ -31,7 +31,13 @@ fn system(
     requires outputs_high { length outputs.now ≤ PORTS }
     requires outputs_below { All (λ o. o < rows) outputs.now }
     requires no_fault { eqs_fault rows inputs terms.now ≡ None }
-    ensures { IfOk result (λ s. s ≡ record { rows = rows; inputs = inputs; terms = kept terms.now; outputs = outputs.now }) }
+    ensures { IfOk result (λ s. s ≡ record {
+      rows = rows;
+      inputs = inputs;
+      terms = kept terms.now;
+      outputs =
+          outputs.now;
+    }) }
 {
     match Eqs::build(alloc, rows, inputs, terms, outputs) {
         Ok(eqs) => Ok(eqs),
@@ -52,8 +58,8 @@ pub fn transfer_system(alloc: Global, b: &[Frac], a: &[Frac]) -> Result<Eqs, All
     system(alloc, 1, 1, &terms, &[0])
 }
 
-/// The equations of one to `SECTIONS` second-order sections of six coefficients each, the fourth being 1. Its error is want
-/// of memory.
+/// The equations of one to `SECTIONS` second-order sections of six coefficients each, the fourth being 1. Its error is
+/// want of memory.
 pub fn cascade_system(alloc: Global, sections: &[Frac]) -> Result<Eqs, AllocError>
     requires low { 6 ≤ length sections.now }
     requires high { length sections.now ≤ 6 * SECTIONS }
@@ -82,7 +88,9 @@ fn up_from(alloc: Global, first: usize, count: usize) -> Result<Vec<u8>, AllocEr
 /// The equations of a state space. Its error is want of memory.
 pub fn space_system(alloc: Global, space: &Space) -> Result<Eqs, AllocError>
     requires { SpaceFits space.now }
-    ensures { IfOk result (λ s. s ≡ ss_equations space.now.n space.now.m space.now.p space.now.a.now space.now.b.now space.now.c.now space.now.d.now) }
+    ensures { IfOk result (λ s.
+        s ≡ ss_equations space.now.n space.now.m space.now.p space.now.a.now space.now.b.now space.now.c.now
+        space.now.d.now) }
 {
     let terms = space_terms(alloc, space)?;
     state_spaces_have_no_fault(
@@ -92,7 +100,8 @@ pub fn space_system(alloc: Global, space: &Space) -> Result<Eqs, AllocError>
     system(alloc, space.n + space.p, space.m, &terms, &outputs)
 }
 
-/// The equations of a lattice of up to `REFLECTIONS` reflection coefficients and one tap more. Its error is want of memory.
+/// The equations of a lattice of up to `REFLECTIONS` reflection coefficients and one tap more. Its error is want of
+/// memory.
 pub fn ladder_system(alloc: Global, k: &[Frac], v: &[Frac]) -> Result<Eqs, AllocError>
     requires order { length k.now ≤ REFLECTIONS }
     requires taps { length v.now ≡ length k.now + 1 }

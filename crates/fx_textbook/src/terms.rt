@@ -2,7 +2,21 @@
 
 ghost use Rattle.std.specs.Prelude.{◌≡◌, ◌≤◌, ◌<◌, ◌+◌, ◌*◌, ◌^◌, ◌++◌, [], ◌∷◌, length, map, drop, OnOk, IfOk};
 ghost use Rattle.fx_nums.specs.Fraction.{one_fraction, minus};
-ghost use Rattle.fx_eqs.specs.Textbook.{backward, backward_rows, forward, forward_rows, lattice_terms, matrix_rows, over_lags, over_sources, recursion, sections, sos_terms, ss_terms, tf_terms};
+ghost use Rattle.fx_eqs.specs.Textbook.{
+  backward,
+  backward_rows,
+  forward,
+  forward_rows,
+  lattice_terms,
+  matrix_rows,
+  over_lags,
+  over_sources,
+  recursion,
+  sections,
+  sos_terms,
+  ss_terms,
+  tf_terms,
+};
 ghost use Rattle.fx_eqs.specs.declared.term.Source.TheVariants.{Row, In};
 ghost use Rattle.fx_textbook.specs.Shapes.{SpaceFits};
 
@@ -12,7 +26,13 @@ use std::alloc::{AllocError, Global};
 
 // One more term.
 fn add(terms: &mut Vec<Term>, row: u8, coef: Frac, from: Source, lag: u8) -> Result<(), AllocError>
-    ensures { OnOk result (terms.new.items ≡ terms.old.items ++ record { row = row; coef = coef; from = from; lag = lag } ∷ []) }
+    ensures { OnOk result (terms.new.items ≡ terms.old.items ++ record {
+      row = row;
+      coef = coef;
+      from =
+          from;
+      lag = lag;
+    } ∷ []) }
 {
     terms.push(Term {
         row,
@@ -200,7 +220,9 @@ pub struct Space<'a> {
 #[tactic(auto, using(crate::proofs::TermCounts::space_count))]
 pub fn space_terms(alloc: Global, space: &Space) -> Result<Vec<Term>, AllocError>
     requires { SpaceFits space.now }
-    ensures value { IfOk result (λ v. v.items ≡ ss_terms space.now.n space.now.m space.now.p space.now.a.now space.now.b.now space.now.c.now space.now.d.now) }
+    ensures value { IfOk result (λ v.
+        v.items ≡ ss_terms space.now.n space.now.m space.now.p space.now.a.now space.now.b.now space.now.c.now
+        space.now.d.now) }
     ensures few { IfOk result (λ v. length v.items < 2 ^ 32) }
 {
     let mut terms = Vec::new(alloc);
@@ -284,7 +306,8 @@ fn over_taps(
     taps: &[Frac],
 ) -> Result<(), AllocError>
     requires { (first + length taps.now ≤ order + 1) × (order ≤ REFLECTIONS) }
-    ensures { OnOk result (terms.new.items ≡ terms.old.items ++ over_sources (2 * order) (backward order) 0 first taps.now) }
+    ensures { OnOk result (terms.new.items
+        ≡ terms.old.items ++ over_sources (2 * order) (backward order) 0 first taps.now) }
 {
     let mut i = first;
     for tap in taps {

@@ -1,5 +1,6 @@
 -- What the answers of the plans have in common, and what a run gives of them that fails before its text.
-use Rattle.std.proofs.Common.{◌≡◌, ◌⊎◌, inl, inr, ℕ, nat_le, Bool, true, false, cond, IsTrue, arith, List, [], ◌∷◌, length, Option, Some, None, Result, Ok, Err, refl, sym, ap, subst, ◌∙◌}
+use Rattle.std.proofs.Common.{◌≡◌, ◌⊎◌, inl, inr, ℕ, nat_le, Bool, true, false, cond, IsTrue, arith, List, []}
+use Rattle.std.proofs.Common.{◌∷◌, length, Option, Some, None, Result, Ok, Err, refl, sym, ap, subst, ◌∙◌}
 use Rattle.std.proofs.lemmas.List.{append-nil}
 use Rattle.std.specs.FinMap.{get}
 use Rattle.fx_io.specs.Outside.{Outside, Output}
@@ -25,7 +26,8 @@ use Rattle.fx_tool.specs.FilterReading.{filter_in}
 use Rattle.fx_tool.specs.Inequalities.{first_refusal}
 use Rattle.fx_tool.specs.Operand.{limit_of, too_long}
 use Rattle.fx_tool.specs.Plan.{Plan, Ends, Reads, by_content, when_short, answer_by, OfAnswer}
-use Rattle.fx_tool.specs.Running.{plan_of, operands_to, names_to, plan_to, answer_of, with_placed, FollowsWords, Leaves, OfWords, PlacesAnswer}
+use Rattle.fx_tool.specs.Running.{plan_of, operands_to, names_to, plan_to, answer_of, with_placed, FollowsWords}
+use Rattle.fx_tool.specs.Running.{Leaves, OfWords, PlacesAnswer}
 use Rattle.fx_tool.specs.Show.{shown, show_plan}
 use Rattle.fx_tool.specs.Simulate.{outputs, samples_plan, simulate_plan}
 use Rattle.fx_tool.specs.Status.{is_spoken}
@@ -34,7 +36,8 @@ use Rattle.fx_tool.specs.declared.command.Verb.{Verb}
 use Rattle.fx_tool.specs.declared.command.Verb.TheVariants.{Check, Show, Simulate}
 use Rattle.fx_tool.specs.declared.inequality.Refusal.{Refusal}
 use Rattle.fx_tool.specs.declared.operand.Operand.{Operand}
-use Rattle.fx_tool.specs.declared.operand.Operand.TheVariants.{Filter, Samples, BuiltFilter, BuiltCode, BuiltCertificate}
+use Rattle.fx_tool.specs.declared.operand.Operand.TheVariants.{Filter, Samples, BuiltFilter, BuiltCode}
+use Rattle.fx_tool.specs.declared.operand.Operand.TheVariants.{BuiltCertificate}
 use Rattle.fx_tool.specs.declared.operand.Operand.TheVariants as operand
 use Rattle.fx_tool.specs.declared.status.Status.{Status}
 use Rattle.fx_tool.specs.declared.status.Status.TheVariants.{ReadFault, NoMemory}
@@ -107,18 +110,24 @@ short_usual : (b : Bool) (next long : Answer) → IsUsual next → IsUsual long 
 short_usual true next long h l = h
 short_usual false next long h l = l
 
-content_usual : (o : Operand) (c : Option (List ℕ)) (next : List ℕ → Answer) → ((content : List ℕ) → IsUsual (next content)) → IsUsual (by_content o absent (too_long o) next c)
+content_usual : (o : Operand) (c : Option (List ℕ)) (next : List ℕ → Answer) →
+    ((content : List ℕ) → IsUsual (next content)) → IsUsual (by_content o absent (too_long o) next c)
 content_usual o None next h = inr refl
-content_usual o (Some content) next h = short_usual (nat_le (length content) (limit_of o)) (next content) (too_long o) (h content) (inl (long_spoken o))
+content_usual o (Some content) next h =
+    short_usual (nat_le (length content) (limit_of o)) (next content) (too_long o) (h content)
+    (inl (long_spoken o))
 
-plan_usual : (os : List Operand) (names : List (List ℕ)) (plan : Plan) (files : Files) → AllSpoken plan → IsUsual (answer_by os names plan files)
+plan_usual : (os : List Operand) (names : List (List ℕ)) (plan : Plan) (files : Files) → AllSpoken plan →
+    IsUsual (answer_by os names plan files)
 plan_usual os names (Ends a) files h = inl h
 plan_usual [] names (Reads next) files h = inr refl
 plan_usual (o ∷ os) [] (Reads next) files h = inr refl
 plan_usual (o ∷ os) (name ∷ names) (Reads next) files h =
-    content_usual o (get files name) (λ content. answer_by os names (next content) files) (λ content. plan_usual os names (next content) files (h content))
+    content_usual o (get files name) (λ content. answer_by os names (next content) files) (λ content.
+    plan_usual os names (next content) files (h content))
 
-of_plan : (os : List Operand) (names : List (List ℕ)) (plan : Plan) (told : Option Files) (P : Answer → Type 0) → AllSpoken plan → ((a : Answer) → IsUsual a → P a) → OfAnswer os names plan told P
+of_plan : (os : List Operand) (names : List (List ℕ)) (plan : Plan) (told : Option Files) (P : Answer →
+    Type 0) → AllSpoken plan → ((a : Answer) → IsUsual a → P a) → OfAnswer os names plan told P
 of_plan os names (Ends a) told P h p = p a (inl h)
 of_plan os names (Reads next) None P h p = tt
 of_plan os names (Reads next) (Some files) P h p = p _ (plan_usual os names (Reads next) files h)
@@ -129,11 +138,14 @@ usual_places_nothing : (a : Answer) → IsUsual a → a.placed ≡ []
 usual_places_nothing a (inl s) = s.placed
 usual_places_nothing a (inr e) = ap (λ (a : Answer). a.placed) e
 
-pub places_nothing : (words : List (List ℕ)) (before after : Option Files) (status : Status) → after ≡ before → PlacesAnswer words before after status
+pub places_nothing : (words : List (List ℕ)) (before after : Option Files) (status : Status) → after ≡ before →
+    PlacesAnswer words before after status
 places_nothing words None after status e = tt
 places_nothing words (Some files) after status e =
     let c = command_of words in
-    λ h. e ∙ ap (λ ps. Some (with_placed ps files)) (sym (usual_places_nothing (answer_of words files) (plan_usual (operands_to c) (names_to c) (plan_to c) files (words_spoken c))))
+    λ h. e ∙ ap (λ ps. Some (with_placed ps files))
+    (sym (usual_places_nothing (answer_of words files)
+    (plan_usual (operands_to c) (names_to c) (plan_to c) files (words_spoken c))))
 
 -- ---- faults before the text
 
@@ -142,7 +154,8 @@ grows_nothing None = refl
 grows_nothing (Some t) = ap Some (sym (append-nil t))
 
 grows_text : (text : List ℕ) (before : Option (List ℕ)) → text ≡ [] → GrowsBy text before before
-grows_text text before e = let P : List ℕ → Type 0 = λ t. GrowsBy t before before in subst P (sym e) (grows_nothing before)
+grows_text text before e = let P : List ℕ → Type 0 = λ t. GrowsBy t before before in
+    subst P (sym e) (grows_nothing before)
 
 silent : (s : Status) → s ≡ ReadFault ⊎ (s ≡ NoMemory) → IsTrue (is_spoken s) → ⊥
 silent s (inl e) h = let no : false ≡ true = subst (λ (s : Status). IsTrue (is_spoken s)) e h in cc
@@ -172,19 +185,24 @@ delivers_no_memory a before u = record {
   prefix = (0, grows_nothing before);
 }
 
-gives_read_fault : (words : List (List ℕ)) (told : Option Files) (before : Option (List ℕ)) → OfWords words told (λ a. Delivers a ReadFault before before)
+gives_read_fault : (words : List (List ℕ)) (told : Option Files) (before : Option (List ℕ)) →
+    OfWords words told (λ a. Delivers a ReadFault before before)
 gives_read_fault words told before =
     let c = command_of words in
-    of_plan (operands_to c) (names_to c) (plan_to c) told (λ a. Delivers a ReadFault before before) (words_spoken c) (λ a u. delivers_read_fault a before u)
+    of_plan (operands_to c) (names_to c) (plan_to c) told (λ a.
+    Delivers a ReadFault before before) (words_spoken c) (λ a u. delivers_read_fault a before u)
 
-gives_no_memory : (words : List (List ℕ)) (told : Option Files) (before : Option (List ℕ)) → OfWords words told (λ a. Delivers a NoMemory before before)
+gives_no_memory : (words : List (List ℕ)) (told : Option Files) (before : Option (List ℕ)) →
+    OfWords words told (λ a. Delivers a NoMemory before before)
 gives_no_memory words told before =
     let c = command_of words in
-    of_plan (operands_to c) (names_to c) (plan_to c) told (λ a. Delivers a NoMemory before before) (words_spoken c) (λ a u. delivers_no_memory a before u)
+    of_plan (operands_to c) (names_to c) (plan_to c) told (λ a.
+    Delivers a NoMemory before before) (words_spoken c) (λ a u. delivers_no_memory a before u)
 
 -- ---- what such a run leaves
 
-pub leaves_read_fault : (words : List (List ℕ)) (shelf shelf' : Outside) (out : Output) (result : Result Answer IoFault) → result ≡ Err io.Failed → FollowsWords words shelf shelf' result
+pub leaves_read_fault : (words : List (List ℕ)) (shelf shelf' : Outside) (out : Output)
+    (result : Result Answer IoFault) → result ≡ Err io.Failed → FollowsWords words shelf shelf' result
     → Leaves words shelf shelf' out out ReadFault
 leaves_read_fault words shelf shelf' out result e f = record {
   answer = gives_read_fault words shelf.files out.told;
@@ -203,11 +221,13 @@ leaves_read_fault words shelf shelf' out result e f = record {
   names = f.shelf.names;
 }
 
-no_fault_counted : (before now : ℕ) (result : Result Answer IoFault) → result ≡ Err io.NoMemory → (now ≡ before) ⊎ (result ≡ Err io.Failed) → now ≡ before
+no_fault_counted : (before now : ℕ) (result : Result Answer IoFault) → result ≡ Err io.NoMemory →
+    (now ≡ before) ⊎ (result ≡ Err io.Failed) → now ≡ before
 no_fault_counted before now result e (inl same) = same
 no_fault_counted before now result e (inr failed) = let no : Err io.NoMemory ≡ Err io.Failed = sym e ∙ failed in cc
 
-pub leaves_no_memory : (words : List (List ℕ)) (shelf shelf' : Outside) (out : Output) (result : Result Answer IoFault) → result ≡ Err io.NoMemory → FollowsWords words shelf shelf' result
+pub leaves_no_memory : (words : List (List ℕ)) (shelf shelf' : Outside) (out : Output)
+    (result : Result Answer IoFault) → result ≡ Err io.NoMemory → FollowsWords words shelf shelf' result
     → Leaves words shelf shelf' out out NoMemory
 leaves_no_memory words shelf shelf' out result e f = record {
   answer = gives_no_memory words shelf.files out.told;

@@ -1,5 +1,8 @@
 -- Every plain numeral means a fraction, and a numeral without a minus means none below 0.
-use Rattle.std.proofs.Common.{pow-add, ◌≡◌, ◌≤◌, ◌<◌, ◌+◌, ◌-◌, ◌*◌, ◌/◌, ◌%◌, ◌^◌, ◌==◌, ◌&&◌, ◌∙◌, ℕ, zero, suc, ℤ, pos, negsuc, ◌+ℤ◌, ◌-ℤ◌, ◌≤ℤ◌, Bool, true, false, List, [], ◌∷◌, ◌++◌, length, Option, Some, None, Result, Ok, Err, refl, sym, ap, arith, lit≤, lit<, inl, inr}
+use Rattle.std.proofs.Common.{pow-add, ◌≡◌, ◌≤◌, ◌<◌, ◌+◌, ◌-◌, ◌*◌, ◌/◌, ◌%◌, ◌^◌, ◌==◌, ◌&&◌, ◌∙◌, ℕ, zero}
+use Rattle.std.proofs.Common.{suc, ℤ, pos, negsuc, ◌+ℤ◌, ◌-ℤ◌, ◌≤ℤ◌, Bool, true, false, List, [], ◌∷◌, ◌++◌}
+use Rattle.std.proofs.Common.{length, Option, Some, None, Result, Ok, Err, refl, sym, ap, arith, lit≤, lit<}
+use Rattle.std.proofs.Common.{inl, inr}
 use Rattle.std.proofs.lemmas.Bool.{cases_Bool, eqb-true}
 use Rattle.std.proofs.lemmas.Bool.Decides.{nat_tests}
 use Rattle.std.proofs.lemmas.Grind.{pow_more}
@@ -11,11 +14,15 @@ use Rattle.std.specs.Prelude.{IfOk, nat_lt}
 use Rattle.fx_nums.specs.Fraction.{Fraction}
 use Rattle.fx_nums.specs.declared.fraction.Den.TheVariants.{Ten}
 use Rattle.fx_decimal.proofs.KeptLaws.{all_on}
-use Rattle.fx_decimal.specs.Faults.{TextLaw, after_in, and_then, digits_in, ended, exponent_in, is_end, numeral, parts_in, sign_in}
+use Rattle.fx_decimal.specs.Faults.{TextLaw, after_in, and_then, digits_in, ended, exponent_in, is_end, numeral}
+use Rattle.fx_decimal.specs.Faults.{parts_in, sign_in}
 use Rattle.fx_nums.specs.Signs.{Bare, IsDigit, Minus, Sign, is_minus, number_from, signed, minus_text}
-use Rattle.fx_decimal.specs.Numeral.{Exponent, IsNumeral, Parts, after_digits, after_text, all_digits, bounded, digits_value, exponent_value, limited, meaning, parts_text, scaled, without_zeros}
+use Rattle.fx_decimal.specs.Numeral.{Exponent, IsNumeral, Parts, after_digits, after_text, all_digits, bounded}
+use Rattle.fx_decimal.specs.Numeral.{digits_value, exponent_value, limited, meaning, parts_text, scaled}
+use Rattle.fx_decimal.specs.Numeral.{without_zeros}
 use Rattle.fx_decimal.specs.declared.fault.DecimalFault.{DecimalFault}
-use Rattle.fx_tool.specs.Numeral.{AreFewDigits, IsAfter, IsPlain, Numeral, PlainLaw, fraction_or_zero, numeral_text, numeral_value}
+use Rattle.fx_tool.specs.Numeral.{AreFewDigits, IsAfter, IsPlain, Numeral, PlainLaw, fraction_or_zero}
+use Rattle.fx_tool.specs.Numeral.{numeral_text, numeral_value}
 
 -- a fraction was read
 record MeansFraction (r : Result Fraction DecimalFault) : Type 0 where
@@ -38,12 +45,15 @@ number_below n b (c ∷ cs) h all =
     let more = ten_more b (length cs) in
     rw more at (number_below (10 * n + (c - 48)) (b * 10) cs next all.1)
 
-few_below : (whole after : List ℕ) → length whole ≤ 6 → AllByRecursion IsDigit (whole ++ after) → number_from 0 (whole ++ after) < 10 ^ 6 * 10 ^ length after
+few_below : (whole after : List ℕ) → length whole ≤ 6 → AllByRecursion IsDigit (whole ++ after) →
+    number_from 0 (whole ++ after) < 10 ^ 6 * 10 ^ length after
 few_below whole after few all =
     let below = number_below 0 1 (whole ++ after) (lit< tt) all in
-    let size : 10 ^ length (whole ++ after) ≡ 10 ^ length whole * 10 ^ length after = rw length-append (pow-add 10 (length whole) (length after)) in
+    let size : 10 ^ length (whole ++ after) ≡ 10 ^ length whole * 10 ^ length after =
+    rw length-append (pow-add 10 (length whole) (length after)) in
     let power : 10 ^ length whole ≤ 10 ^ 6 = pow-le-pow_right (lit≤ tt) few in
-    let up : 10 ^ length whole * 10 ^ length after ≤ 10 ^ 6 * 10 ^ length after = mul-le-mul_right (10 ^ length after) power in
+    let up : 10 ^ length whole * 10 ^ length after ≤ 10 ^ 6 * 10 ^ length after =
+    mul-le-mul_right (10 ^ length after) power in
     omega arith
 
 -- ---- without the zeros
@@ -80,7 +90,8 @@ without_factor a b f h = elim (cases_Bool (nat_lt a b)) [
       absurd (omega arith)
 ]
 
-scaled_is : (negative : Bool) (m z k : ℕ) (p : ℤ) → p ≡ (pos 0 -ℤ pos k) +ℤ pos z → k ≤ 6 → m * 10 ^ z < 10 ^ 6 * 10 ^ k → MeansFraction (scaled negative m p)
+scaled_is : (negative : Bool) (m z k : ℕ) (p : ℤ) → p ≡ (pos 0 -ℤ pos k) +ℤ pos z → k ≤ 6 →
+    m * 10 ^ z < 10 ^ 6 * 10 ^ k → MeansFraction (scaled negative m p)
 scaled_is negative m z k (pos j) e few small =
     let places : z ≡ j + k = omega (arith, ints) in
     let power : 10 ^ z ≡ 10 ^ j * 10 ^ k = rw places (pow-add 10 j k) in
@@ -90,12 +101,14 @@ scaled_is negative m z k (pos j) e few small =
 scaled_is negative m z k (negsuc q) e few small =
     let places : k ≡ (q + 1) + z = omega (arith, ints) in
     let power : 10 ^ k ≡ 10 ^ (q + 1) * 10 ^ z = rw places (pow-add 10 (q + 1) z) in
-    let both : m * 10 ^ z < (10 ^ 6 * 10 ^ (q + 1)) * 10 ^ z = rw (power, ← mul_assoc (10 ^ 6) (10 ^ (q + 1)) (10 ^ z)) at small in
+    let both : m * 10 ^ z < (10 ^ 6 * 10 ^ (q + 1)) * 10 ^ z =
+    rw (power, ← mul_assoc (10 ^ 6) (10 ^ (q + 1)) (10 ^ z)) at small in
     let less = without_factor m (10 ^ 6 * 10 ^ (q + 1)) (10 ^ z) both in
     let fine : nat_lt q 28 ≡ true = grind (arith, nat_tests) in
     rw fine (bounded_is negative m (q + 1) less)
 
-limited_is : (negative : Bool) (m z k : ℕ) → k ≤ 6 → m * 10 ^ z < 10 ^ 6 * 10 ^ k → MeansFraction (limited negative m ((pos 0 -ℤ pos k) +ℤ pos z))
+limited_is : (negative : Bool) (m z k : ℕ) → k ≤ 6 → m * 10 ^ z < 10 ^ 6 * 10 ^ k →
+    MeansFraction (limited negative m ((pos 0 -ℤ pos k) +ℤ pos z))
 limited_is negative m z k few small = elim (cases_Bool (m == 0)) [
   | inl none ↦ rw none (record { value = record { num = pos 0; den = Ten 0 }; is = refl })
   | inr some ↦
@@ -108,7 +121,8 @@ limited_is negative m z k few small = elim (cases_Bool (m == 0)) [
       rw (some, test) (scaled_is negative m z k ((pos 0 -ℤ pos k) +ℤ pos z) refl few small)
 ]
 
-value_is : (negative : Bool) (ds : List ℕ) (k : ℕ) → k ≤ 6 → number_from 0 ds < 10 ^ 6 * 10 ^ k → MeansFraction (digits_value negative ds k (pos 0))
+value_is : (negative : Bool) (ds : List ℕ) (k : ℕ) → k ≤ 6 → number_from 0 ds < 10 ^ 6 * 10 ^ k →
+    MeansFraction (digits_value negative ds k (pos 0))
 unfolding digits_value
 value_is negative ds k few small =
     let kept = without_zeros (length ds) (number_from 0 ds) in
@@ -124,7 +138,8 @@ sign_of false = Bare
 abbrev parts_of : Bool → List ℕ → Option (List ℕ) → Parts
 parts_of negative whole after = record { sign = sign_of negative; whole = whole; after = after; exponent = None }
 
-text_is : (negative : Bool) (whole : List ℕ) (after : Option (List ℕ)) → minus_text negative ++ (whole ++ after_text after) ≡ parts_text (parts_of negative whole after)
+text_is : (negative : Bool) (whole : List ℕ) (after : Option (List ℕ)) →
+    minus_text negative ++ (whole ++ after_text after) ≡ parts_text (parts_of negative whole after)
 text_is true whole after = ap (λ (t : List ℕ). 45 ∷ (whole ++ t)) (sym (append-nil (after_text after)))
 text_is false whole after = ap (λ (t : List ℕ). whole ++ t) (sym (append-nil (after_text after)))
 
@@ -148,10 +163,16 @@ plain_means text_law n h =
     let some : 1 ≤ length (n.whole ++ after) = rw length-append (omega (arith, h.whole.some)) in
     let proper : IsNumeral parts = record { digits = record { some = some; all = all }; exponent = tt } in
     let few = after_few n.after h.after in
-    rw (text_is n.negative n.whole n.after, text_law parts proper, sign_is n.negative) (value_is n.negative (n.whole ++ after) (length after) few (few_below n.whole after h.whole.few all))
+    rw (
+      text_is n.negative n.whole n.after,
+      text_law parts proper,
+      sign_is n.negative,
+    ) (value_is n.negative (n.whole ++ after) (length after) few
+    (few_below n.whole after h.whole.few all))
 
 pub plain_law : TextLaw → PlainLaw
-plain_law text_law n h = let m = plain_means text_law n h in m.is ∙ ap (λ (r : Result Fraction DecimalFault). Ok (fraction_or_zero r)) (sym m.is)
+plain_law text_law n h = let m = plain_means text_law n h in
+    m.is ∙ ap (λ (r : Result Fraction DecimalFault). Ok (fraction_or_zero r)) (sym m.is)
 
 -- ---- a fraction that was read
 
@@ -191,12 +212,15 @@ meaning_up p sign =
     let kept = without_zeros (length (all_digits p)) (number_from 0 (all_digits p)) in
     rw sign (limited_up kept.0 ((exponent_value p.exponent -ℤ pos (length (after_digits p.after))) +ℤ pos kept.1))
 
-exponent_up : (s : Sign) (whole : List ℕ) (after : Option (List ℕ)) (e : Result (Option Exponent) DecimalFault) → is_minus s ≡ false →
+exponent_up : (s : Sign) (whole : List ℕ) (after : Option (List ℕ))
+    (e : Result (Option Exponent) DecimalFault) → is_minus s ≡ false →
     IsUp (and_then meaning (and_then (λ e. Ok (record { sign = s; whole = whole; after = after; exponent = e })) e))
-exponent_up s whole after (Ok e) sign = meaning_up (record { sign = s; whole = whole; after = after; exponent = e }) sign
+exponent_up s whole after (Ok e) sign =
+    meaning_up (record { sign = s; whole = whole; after = after; exponent = e }) sign
 exponent_up s whole after (Err fault) sign = tt
 
-ended_up : (n : ℕ) (s : Sign) (whole : List ℕ) (read : Option (List ℕ) × List ℕ) → is_minus s ≡ false → IsUp (and_then meaning (ended n s whole read))
+ended_up : (n : ℕ) (s : Sign) (whole : List ℕ) (read : Option (List ℕ) × List ℕ) → is_minus s ≡ false →
+    IsUp (and_then meaning (ended n s whole read))
 ended_up n s whole read sign = elim (cases_Bool (is_end whole && is_end (after_digits read.0))) [
   | inl none ↦ rw none tt
   | inr some ↦ rw some (exponent_up s whole read.0 (exponent_in n read.1) sign)

@@ -1,5 +1,6 @@
 -- What weights that enclose quotients say of a rounded row and of its difference from an exact value.
-use Rattle.std.proofs.Common.{◌≡◌, ℕ, zero, suc, ◌+◌, ◌*◌, ◌^◌, ◌<◌, ◌≤◌, ℤ, pos, neg_ℤ, ◌+ℤ◌, ◌-ℤ◌, ◌*ℤ◌, unsigned_abs, arith, ap}
+use Rattle.std.proofs.Common.{◌≡◌, ℕ, zero, suc, ◌+◌, ◌*◌, ◌^◌, ◌<◌, ◌≤◌, ℤ, pos, neg_ℤ, ◌+ℤ◌, ◌-ℤ◌, ◌*ℤ◌}
+use Rattle.std.proofs.Common.{unsigned_abs, arith, ap}
 use Rattle.std.proofs.lemmas.Nat.{pow_pos}
 use Rattle.std.proofs.lemmas.Int.{ints, unsigned_abs-mul}
 use Rattle.std.proofs.Math.Nat.{mul-le-mul_left, mul-le-mul_right, pow-suc}
@@ -18,11 +19,18 @@ half_scaled zero = omega arith
 half_scaled (suc r) = omega (arith, pow-suc 2 r)
 
 -- the rounded quotient is near the quotient
-pub rounded_near : (p : ℤ) (r : ℕ) → unsigned_abs (floor_div (pos (half_place r) +ℤ p) (2 ^ r) *ℤ pos (2 ^ r) -ℤ p) ≤ half_place r
+pub rounded_near : (p : ℤ) (r : ℕ) →
+    unsigned_abs (floor_div (pos (half_place r) +ℤ p) (2 ^ r) *ℤ pos (2 ^ r) -ℤ p) ≤ half_place r
 rounded_near p zero = omega (arith, ints, floor_below (pos 0 +ℤ p) 1, floor_above (pos 0 +ℤ p) 1)
 rounded_near p (suc r) =
     let z = pos (2 ^ r) +ℤ p in
-    omega (arith, ints, pow-suc 2 r, floor_below z (2 ^ suc r) (pow_pos (suc r)), floor_above z (2 ^ suc r) (pow_pos (suc r)))
+    omega (
+      arith,
+      ints,
+      pow-suc 2 r,
+      floor_below z (2 ^ suc r) (pow_pos (suc r)),
+      floor_above z (2 ^ suc r) (pow_pos (suc r)),
+    )
 
 -- ---- a row
 
@@ -31,7 +39,8 @@ pub weight_le : (m : ℤ) (k : ℕ) → 0 < k → unsigned_abs m * 2 ^ 64 ≤ ma
 weight_le m k h = between m _ _ (2 ^ 64) k (floor_below (m *ℤ pos (2 ^ 64)) k h) (ceil_above (m *ℤ pos (2 ^ 64)) k h)
 
 -- the sum of a row stays within its bound
-pub sum_le : (m u : ℤ) (k b a h c x : ℕ) → unsigned_abs u ≤ b → unsigned_abs m * 2 ^ 64 ≤ a * k → h * k ≡ 2 ^ 64 * c → a * b + h ≤ x * 2 ^ 64 →
+pub sum_le : (m u : ℤ) (k b a h c x : ℕ) → unsigned_abs u ≤ b → unsigned_abs m * 2 ^ 64 ≤ a * k →
+    h * k ≡ 2 ^ 64 * c → a * b + h ≤ x * 2 ^ 64 →
     unsigned_abs (m *ℤ u) + c ≤ x * k
 sum_le m u k b a h c x input weight half bound =
     let s1 : unsigned_abs m * unsigned_abs u ≤ unsigned_abs m * b = mul-le-mul_left (unsigned_abs m) input in
@@ -44,15 +53,18 @@ sum_le m u k b a h c x input weight half bound =
 add_le : (a b : ℤ) → unsigned_abs (a +ℤ b) ≤ unsigned_abs a + unsigned_abs b
 add_le a b = omega (arith, ints)
 
-split : (y m u n : ℤ) (k d : ℕ) → (y *ℤ pos d -ℤ n *ℤ u) *ℤ pos k ≡ (y *ℤ pos k -ℤ m *ℤ u) *ℤ pos d +ℤ (m *ℤ pos d -ℤ n *ℤ pos k) *ℤ u
+split : (y m u n : ℤ) (k d : ℕ) → (y *ℤ pos d -ℤ n *ℤ u) *ℤ pos k
+    ≡ (y *ℤ pos k -ℤ m *ℤ u) *ℤ pos d +ℤ (m *ℤ pos d -ℤ n *ℤ pos k) *ℤ u
 split y m u n k d =
     same_value (mul (sub (mul (int y) (nat d)) (mul (int n) (int u))) (nat k))
-    (add (mul (sub (mul (int y) (nat k)) (mul (int m) (int u))) (nat d)) (mul (sub (mul (int m) (nat d)) (mul (int n) (nat k))) (int u)))
+    (add (mul (sub (mul (int y) (nat k)) (mul (int m) (int u))) (nat d))
+    (mul (sub (mul (int m) (nat d)) (mul (int n) (nat k))) (int u)))
     (omega arith)
 
 -- y is near m u / k, and m / k is near n / d, so y is near n u / d
 pub difference_le : (y m u n : ℤ) (k d a b h c e : ℕ) → 0 < k → unsigned_abs (y *ℤ pos k -ℤ m *ℤ u) ≤ c →
-    unsigned_abs (m *ℤ pos d -ℤ n *ℤ pos k) * 2 ^ 64 ≤ a * (k * d) → unsigned_abs u ≤ b → h * k ≡ 2 ^ 64 * c → a * b + h ≤ e →
+    unsigned_abs (m *ℤ pos d -ℤ n *ℤ pos k) * 2 ^ 64 ≤ a * (k * d) → unsigned_abs u ≤ b → h * k ≡ 2 ^ 64 * c →
+    a * b + h ≤ e →
     2 ^ 64 * unsigned_abs (y *ℤ pos d -ℤ n *ℤ u) ≤ e * d
 difference_le y m u n k d a b h c e positive near weights input half bound =
     let t = unsigned_abs (y *ℤ pos d -ℤ n *ℤ u) in
@@ -72,7 +84,8 @@ difference_le y m u n k d a b h c e positive near weights input half bound =
     let s5 : (h * k) * d ≡ (2 ^ 64 * c) * d = ap (λ x. x * d) half in
     cancel_le (2 ^ 64 * t) (e * d) k positive (omega (arith, whole, s1, s2, s3, s4, s5))
 
-difference_scaled : (m n : ℤ) (k d s : ℕ) → (m *ℤ pos d -ℤ n *ℤ pos k) *ℤ pos s ≡ (m *ℤ pos s) *ℤ pos d -ℤ (n *ℤ pos s) *ℤ pos k
+difference_scaled : (m n : ℤ) (k d s : ℕ) → (m *ℤ pos d -ℤ n *ℤ pos k) *ℤ pos s
+    ≡ (m *ℤ pos s) *ℤ pos d -ℤ (n *ℤ pos s) *ℤ pos k
 difference_scaled m n k d s =
     same_value (mul (sub (mul (int m) (nat d)) (mul (int n) (nat k))) (nat s))
     (sub (mul (mul (int m) (nat s)) (nat d)) (mul (mul (int n) (nat s)) (nat k))) (omega arith)
@@ -84,7 +97,8 @@ ends_scaled a b k d =
 
 -- the magnitude of the difference of the intervals that enclose m / k and n / d
 pub difference_weight_le : (m n : ℤ) (k d : ℕ) → 0 < k → 0 < d →
-    unsigned_abs (m *ℤ pos d -ℤ n *ℤ pos k) * 2 ^ 64 ≤ magnitude (plus (enclosure m k) (opposite (enclosure n d))) * (k * d)
+    unsigned_abs (m *ℤ pos d -ℤ n *ℤ pos k) * 2 ^ 64 ≤ magnitude
+    (plus (enclosure m k) (opposite (enclosure n d))) * (k * d)
 difference_weight_le m n k d hk hd =
     let i = enclosure m k in
     let j = enclosure n d in
@@ -95,4 +109,5 @@ difference_weight_le m n k d hk hd =
     let x = difference_scaled m n k d (2 ^ 64) in
     let low = ends_scaled i.lo j.hi k d in
     let high = ends_scaled i.hi j.lo k d in
-    between (m *ℤ pos d -ℤ n *ℤ pos k) (i.lo +ℤ neg_ℤ j.hi) (i.hi +ℤ neg_ℤ j.lo) (2 ^ 64) (k * d) (rw (x, low) (omega (arith, ints, a, e))) (rw (x, high) (omega (arith, ints, b, c)))
+    between (m *ℤ pos d -ℤ n *ℤ pos k) (i.lo +ℤ neg_ℤ j.hi) (i.hi +ℤ neg_ℤ j.lo) (2 ^ 64) (k * d)
+    (rw (x, low) (omega (arith, ints, a, e))) (rw (x, high) (omega (arith, ints, b, c)))

@@ -1,5 +1,6 @@
 -- A text that is put piece by piece.
-use Rattle.std.proofs.Common.{◌≡◌, ℕ, ◌+◌, ◌-◌, ◌≤◌, List, ◌++◌, length, take, drop, arith, ap, sym, ◌∙◌, subst, append_assoc, Option, Some, None}
+use Rattle.std.proofs.Common.{◌≡◌, ℕ, ◌+◌, ◌-◌, ◌≤◌, List, ◌++◌, length, take, drop, arith, ap, sym, ◌∙◌, subst}
+use Rattle.std.proofs.Common.{append_assoc, Option, Some, None}
 use Rattle.std.specs.Option.{option_map}
 use Rattle.std.proofs.Math.Seq.{take-add}
 use Rattle.std.proofs.lemmas.List.{length-drop, drop-drop, take_all}
@@ -17,9 +18,11 @@ put_more : (before now after : Option (List ℕ)) (text rest : List ℕ) (n c : 
 put_more None now after text rest n c e g h = h ∙ ap (option_map (λ t. t ++ take c rest)) g
 put_more (Some t) now after text rest n c e g h =
     h ∙ ap (option_map (λ t. t ++ take c rest)) g
-    ∙ ap Some (append_assoc t (take n text) (take c rest) ∙ ap (λ r. t ++ (take n text ++ take c r)) e ∙ ap (λ x. t ++ x) (sym (take-add n c text)))
+    ∙ ap Some (append_assoc t (take n text) (take c rest) ∙ ap (λ r. t ++ (take n text ++ take c r)) e
+    ∙ ap (λ x. t ++ x) (sym (take-add n c text)))
 
-put_on : (before now after : Option (List ℕ)) (text rest : List ℕ) (c : ℕ) → c ≤ length rest → IsPut text rest before now → GrowsBy (take c rest) now after → IsPut text (drop c rest) before after
+put_on : (before now after : Option (List ℕ)) (text rest : List ℕ) (c : ℕ) → c ≤ length rest →
+    IsPut text rest before now → GrowsBy (take c rest) now after → IsPut text (drop c rest) before after
 put_on before now after text rest c within p h =
     let n = length text - length rest in
     let less : length (drop c rest) ≡ length rest - c = length-drop c rest in
@@ -27,12 +30,16 @@ put_on before now after text rest c within p h =
     record {
       short = omega (arith, less, p.short);
       place = ap (drop c) p.place ∙ drop-drop c n text ∙ ap (λ k. drop k text) further;
-      told = let Q : ℕ → Type 0 = λ k. GrowsBy (take k text) before after in subst Q further (put_more before now after text rest n c p.place p.told h);
+      told = let Q : ℕ → Type 0 = λ k. GrowsBy (take k text) before after in
+          subst Q further (put_more before now after text rest n c p.place p.told h);
     }
 
 -- the same as the code has it
-pub put_next : (before now after : Option (List ℕ)) (text rest : List ℕ) (c : ℕ) → c ≤ length rest → IsPut text rest before now → GrowsBy (take c rest) now after → IsPut text (take (length rest - c) (drop c rest)) before after
+pub put_next : (before now after : Option (List ℕ)) (text rest : List ℕ) (c : ℕ) → c ≤ length rest →
+    IsPut text rest before now → GrowsBy (take c rest) now after →
+    IsPut text (take (length rest - c) (drop c rest)) before after
 put_next before now after text rest c within p h =
-    let whole : take (length rest - c) (drop c rest) ≡ drop c rest = take_all (length rest - c) (drop c rest) (omega (arith, length-drop c rest)) in
+    let whole : take (length rest - c) (drop c rest) ≡ drop c rest =
+    take_all (length rest - c) (drop c rest) (omega (arith, length-drop c rest)) in
     let Q : List ℕ → Type 0 = λ r. IsPut text r before after in
     subst Q (sym whole) (put_on before now after text rest c within p h)

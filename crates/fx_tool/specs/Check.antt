@@ -45,10 +45,12 @@ after_filter (Some f) = Reads (λ code. after_code f (code_in code))
 abbrev pub check_plan : Plan
 check_plan = Reads (λ filter. after_filter (filter_in filter))
 
--- The three files read as a filter, a program and a certificate; for every list of input words within the filter's bounds, of
--- any length, each row of the program ends with the exact sum in its accumulator, each stored word lies in its format, and
--- each output differs from the filter's exact output by at most the certificate's error, which is the one that was printed.
-pub record Headline (files : Files) (filter_name code_name certificate_name : List ℕ) (before after : Option (List ℕ)) : Type 0 where
+-- The three files read as a filter, a program and a certificate; for every list of input words within the filter's
+-- bounds, of any length, each row of the program ends with the exact sum in its accumulator, each stored word lies in
+-- its format, and each output differs from the filter's exact output by at most the certificate's error, which is the
+-- one that was printed.
+pub record Headline (files : Files) (filter_name code_name certificate_name : List ℕ)
+    (before after : Option (List ℕ)) : Type 0 where
   pub filter : Filter
   pub program : Code
   pub certificate : Certificate

@@ -1,12 +1,14 @@
 -- Certificates with two rows and one output.
-use Rattle.std.specs.Prelude.{◌≡◌, ◌↔◌, ◌^◌, ℕ, ◌==◌, Bool, List, [], ◌∷◌, length, codes, Option, Some, None, if◌then◌else◌}
+use Rattle.std.specs.Prelude.{◌≡◌, ◌↔◌, ◌^◌, ℕ, ◌==◌, Bool, List, [], ◌∷◌, length, codes, Option, Some, None}
+use Rattle.std.specs.Prelude.{if◌then◌else◌}
 use Rattle.std.specs.Str.{bytes_eq}
 use Rattle.fx_tool.specs.declared.certificate.Claim.{Claim}
 use Rattle.fx_tool.specs.Certificate.{Certificate, IsCertificateText}
 use Rattle.fx_tool.specs.Text.{◌>>=◌, numbered_in}
 
 abbrev pub certificate_with : ℕ → ℕ → ℕ → ℕ → Certificate
-certificate_with len code_bound filter_bound error = record { length = len; bounds = code_bound ∷ filter_bound ∷ []; errors = error ∷ [] }
+certificate_with len code_bound filter_bound error =
+    record { length = len; bounds = code_bound ∷ filter_bound ∷ []; errors = error ∷ [] }
 
 -- the certificate that a claim stands for
 abbrev pub certificate_of : Claim → Certificate
@@ -33,4 +35,6 @@ certificate_in bytes = do
 
 -- a certificate is read exactly from its text, where it has two rows and one output
 abbrev pub CertificateLaw : Type 0
-CertificateLaw = (bytes : List ℕ) (c : Certificate) → (certificate_in bytes ≡ Some c) ↔ (IsCertificateText bytes c × (length c.bounds ≡ 2) × (length c.errors ≡ 1))
+CertificateLaw = (bytes : List ℕ) (c : Certificate) →
+    (certificate_in bytes ≡ Some c) ↔ (IsCertificateText bytes c × (length c.bounds ≡ 2)
+    × (length c.errors ≡ 1))

@@ -1,5 +1,6 @@
 -- Reading programs of one row with one term.
-use Rattle.std.specs.Prelude.{◌≡◌, ◌↔◌, ◌==◌, ◌&&◌, ℕ, Bool, false, List, [], ◌∷◌, length, Option, Some, None, Result, Ok, Err, if◌then◌else◌}
+use Rattle.std.specs.Prelude.{◌≡◌, ◌↔◌, ◌==◌, ◌&&◌, ℕ, Bool, false, List, [], ◌∷◌, length, Option, Some, None}
+use Rattle.std.specs.Prelude.{Result, Ok, Err, if◌then◌else◌}
 use Rattle.std.specs.Str.{bytes_eq}
 use Rattle.fx_code.specs.Code.{Code, row_at}
 use Rattle.fx_code.specs.Limits.{same_source}
@@ -16,7 +17,8 @@ is_one_term _ = false
 
 -- one input, one row with one term, one output
 abbrev pub is_constant : Code → Bool
-is_constant p = length p.inputs == 1 && (length p.rows == 1 && (is_one_term (row_at p 0).terms && bytes_eq p.outputs (0 ∷ [])))
+is_constant p = length p.inputs == 1
+    && (length p.rows == 1 && (is_one_term (row_at p 0).terms && bytes_eq p.outputs (0 ∷ [])))
 
 -- a program, where it is one of one row with one term, in its layout
 unfoldable pub constant_code : List ℕ → Code → Option Code

@@ -1,5 +1,6 @@
 -- The commands: their words and operands, and what the words of a command line ask for.
-use Rattle.std.specs.Prelude.{ℕ, nat_eq, ◌==◌, ◌&&◌, Bool, not, if◌then◌else◌, List, [], ◌∷◌, length, map, codes, String, Option, Some, None, option_and_then}
+use Rattle.std.specs.Prelude.{ℕ, nat_eq, ◌==◌, ◌&&◌, Bool, not, if◌then◌else◌, List, [], ◌∷◌, length, map}
+use Rattle.std.specs.Prelude.{codes, String, Option, Some, None, option_and_then}
 use Rattle.std.specs.List.{list_all, starts_with}
 use Rattle.std.specs.String.{string_bytes}
 use Rattle.std.specs.Str.{bytes_eq}
@@ -8,7 +9,8 @@ use Rattle.fx_tool.specs.declared.command.TheConstants.{VERBS}
 use Rattle.fx_tool.specs.declared.command.Verb.{Verb}
 use Rattle.fx_tool.specs.declared.command.Verb.TheVariants.{Check, Show, Simulate}
 use Rattle.fx_tool.specs.declared.operand.Operand.{Operand}
-use Rattle.fx_tool.specs.declared.operand.Operand.TheVariants.{Filter, Code, Samples, BuiltFilter, BuiltCode, BuiltCertificate}
+use Rattle.fx_tool.specs.declared.operand.Operand.TheVariants.{Filter, Code, Samples, BuiltFilter, BuiltCode}
+use Rattle.fx_tool.specs.declared.operand.Operand.TheVariants.{BuiltCertificate}
 
 -- ---- one arm for each command
 

@@ -1,5 +1,6 @@
 -- Programs of one row with one term, and the layout of their file.
-use Rattle.std.specs.Prelude.{◌≡◌, ◌<◌, ◌==◌, ◌&&◌, ◌||◌, not, ℕ, ℤ, pos, unsigned_abs, Bool, true, List, [], ◌∷◌, filter, length}
+use Rattle.std.specs.Prelude.{◌≡◌, ◌<◌, ◌==◌, ◌&&◌, ◌||◌, not, ℕ, ℤ, pos, unsigned_abs, Bool, true, List, []}
+use Rattle.std.specs.Prelude.{◌∷◌, filter, length}
 use Rattle.std.specs.Str.{bytes_eq}
 use Rattle.fx_code.specs.Code.{Row, Code, row_at}
 use Rattle.fx_code.specs.declared.term.CodeTerm.{CodeTerm}

@@ -9,8 +9,8 @@ pub record InputFormat : Type 0 where
   pub width : ℕ
   pub bound : ℤ
 
--- An output is the value of a row. Its words have this many bits and count steps of 2 ^ low; the wanted error is in these
--- steps, and the target is its floor at the scale 2 ^ -64.
+-- An output is the value of a row. Its words have this many bits and count steps of 2 ^ low; the wanted error is in
+-- these steps, and the target is its floor at the scale 2 ^ -64.
 pub record OutputFormat : Type 0 where
   pub row : ℕ
   pub width : ℕ
@@ -28,7 +28,8 @@ pub record Filter : Type 0 where
 
 -- one word per input, each within its bound
 abbrev pub IsAdmissibleMoment : Filter → List ℤ → Type 0
-IsAdmissibleMoment filter moment = AllZip (λ (f : InputFormat) (u : ℤ). pos (unsigned_abs u) ≤ℤ f.bound) filter.inputs moment
+IsAdmissibleMoment filter moment =
+    AllZip (λ (f : InputFormat) (u : ℤ). pos (unsigned_abs u) ≤ℤ f.bound) filter.inputs moment
 
 -- an input list of any length, all of whose words are within their bounds
 abbrev pub IsAdmissible : Filter → List (List ℤ) → Type 0

@@ -1,5 +1,6 @@
 -- How files of filters of one coefficient are read.
-use Rattle.std.specs.Prelude.{◌≡◌, ◌↔◌, ◌^◌, ◌-◌, ℕ, ◌==◌, ◌&&◌, ◌||◌, nat_le, nat_lt, Bool, List, codes, Option, Some, None, if◌then◌else◌}
+use Rattle.std.specs.Prelude.{◌≡◌, ◌↔◌, ◌^◌, ◌-◌, ℕ, ◌==◌, ◌&&◌, ◌||◌, nat_le, nat_lt, Bool, List, codes}
+use Rattle.std.specs.Prelude.{Option, Some, None, if◌then◌else◌}
 use Rattle.std.specs.Str.{bytes_eq}
 use Rattle.fx_nums.specs.Fraction.{Fraction}
 use Rattle.fx_tool.specs.ConstantFilter.{ConstantFilter, FilterNumbers, FilterNumbersFit, constant_filter, filter_text}
@@ -50,7 +51,15 @@ filter_in bytes = do
   input ← input_in coefficient.1
   output ← output_in input.2
   accumulator ← accumulator_in output.0 output.2
-  Some (record { coefficient = coefficient.0; input_width = input.0; bound = input.1; output_width = output.0; error = output.1; accumulator = accumulator })
+  Some (record {
+    coefficient = coefficient.0;
+    input_width = input.0;
+    bound = input.1;
+    output_width =
+        output.0;
+    error = output.1;
+    accumulator = accumulator;
+  })
 
 -- the bytes are the text of some numbers within their limits, and these mean the filter
 pub record IsConstantFilterText (bytes : List ℕ) (f : ConstantFilter) : Type 0 where

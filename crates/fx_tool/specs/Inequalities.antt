@@ -1,5 +1,7 @@
 -- The inequalities that a certificate has to meet, for a filter of one coefficient and a program of one term.
-use Rattle.std.specs.Prelude.{ℕ, zero, suc, ◌+◌, ◌-◌, ◌*◌, ◌^◌, ◌==◌, nat_lt, nat_le, Bool, true, false, ℤ, pos, List, [], ◌∷◌, slice_index, int_le, unsigned_abs, Option, Some, None, Result, Ok, Err}
+use Rattle.std.specs.Prelude.{ℕ, zero, suc, ◌+◌, ◌-◌, ◌*◌, ◌^◌, ◌==◌, nat_lt, nat_le, Bool, true, false, ℤ, pos}
+use Rattle.std.specs.Prelude.{List, [], ◌∷◌, slice_index, int_le, unsigned_abs, Option, Some, None, Result, Ok}
+use Rattle.std.specs.Prelude.{Err}
 use Rattle.fx_nums.specs.Fraction.{den_value}
 use Rattle.fx_nums.specs.Interval.{Interval, enclosure, plus, opposite, magnitude}
 use Rattle.fx_code.specs.declared.term.CodeTerm.{CodeTerm}
@@ -7,7 +9,8 @@ use Rattle.fx_code.specs.Code.{Code, row_at, weight}
 use Rattle.fx_tool.specs.ConstantFilter.{ConstantFilter, target_of}
 use Rattle.fx_tool.specs.Certificate.{Certificate}
 use Rattle.fx_tool.specs.declared.inequality.Inequality.{Inequality}
-use Rattle.fx_tool.specs.declared.inequality.Inequality.TheVariants.{Accumulator, InputWidth, OutputWidth, Sweep, Bound, Word, Sum, Error, Wanted}
+use Rattle.fx_tool.specs.declared.inequality.Inequality.TheVariants.{Accumulator, InputWidth, OutputWidth}
+use Rattle.fx_tool.specs.declared.inequality.Inequality.TheVariants.{Sweep, Bound, Word, Sum, Error, Wanted}
 use Rattle.fx_tool.specs.declared.inequality.Refusal.{Refusal}
 
 -- ---- the weights, at the scale 2 ^ -64

@@ -2,7 +2,8 @@
 use Rattle.std.specs.Prelude.{ℕ, List, codes}
 use Rattle.fx_tool.specs.Answer.{Answer, says}
 use Rattle.fx_tool.specs.declared.operand.Operand.{Operand}
-use Rattle.fx_tool.specs.declared.operand.Operand.TheVariants.{Filter, Code, Samples, BuiltFilter, BuiltCode, BuiltCertificate}
+use Rattle.fx_tool.specs.declared.operand.Operand.TheVariants.{Filter, Code, Samples, BuiltFilter, BuiltCode}
+use Rattle.fx_tool.specs.declared.operand.Operand.TheVariants.{BuiltCertificate}
 use Rattle.fx_tool.specs.declared.operand.TheConstants.{LONGEST_FILE, LONGEST_SAMPLES, LONGEST_BUILT}
 use Rattle.fx_tool.specs.declared.status.Status.TheVariants.{TooLong, NotBuiltYet}
 

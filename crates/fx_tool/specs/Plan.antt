@@ -1,5 +1,6 @@
 -- What a command does with the contents of its files: it reads one after another, and then has its answer.
-use Rattle.std.specs.Prelude.{◌≡◌, ℕ, ◌+◌, nat_le, if◌then◌else◌, List, [], ◌∷◌, length, Option, Some, None, Result, IfOk, IsTrue, All, ⊤}
+use Rattle.std.specs.Prelude.{◌≡◌, ℕ, ◌+◌, nat_le, if◌then◌else◌, List, [], ◌∷◌, length, Option, Some, None}
+use Rattle.std.specs.Prelude.{Result, IfOk, IsTrue, All, ⊤}
 use Rattle.std.specs.FinMap.{get}
 use Rattle.fx_io.specs.Shelf.{Files}
 use Rattle.fx_io.specs.Outside.{Outside, OnlyReads}
@@ -36,7 +37,8 @@ answer_by _ _ (Reads next) files = absent
 abbrev pub calls_by : List Operand → List (List ℕ) → Plan → Files → ℕ
 calls_by os names (Ends answer) files = 0
 calls_by (o ∷ os) (name ∷ names) (Reads next) files =
-    read_calls (limit_of o) (Some files) name + by_content o 0 0 (λ content. calls_by os names (next content) files) (get files name)
+    read_calls (limit_of o) (Some files) name + by_content o 0 0 (λ content.
+    calls_by os names (next content) files) (get files name)
 calls_by _ _ (Reads next) files = 0
 
 -- and on files that are not
@@ -66,6 +68,7 @@ abbrev pub MayRead : Outside → List (List ℕ) → Type 0
 MayRead outside names = All (λ name. IsTrue (outside.readable name)) names
 
 -- the answer is that of the plan, and the files were only read, in no more calls than the plan takes
-pub record Follows (os : List Operand) (names : List (List ℕ)) (plan : Plan) (before now : Outside) (result : Result Answer IoFault) : Type 0 where
+pub record Follows (os : List Operand) (names : List (List ℕ)) (plan : Plan) (before now : Outside)
+    (result : Result Answer IoFault) : Type 0 where
   pub answer : IfOk result (λ answer. OfAnswer os names plan before.files (λ a. a ≡ answer))
   pub shelf : OnlyReads (plan_calls os names plan before.files) before now result

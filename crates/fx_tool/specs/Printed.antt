@@ -3,7 +3,8 @@ use Rattle.std.specs.Prelude.{ℕ, ◌+◌, pos, List, [], ◌∷◌, ◌++◌, 
 use Rattle.std.specs.Fmt.{decimal}
 use Rattle.fx_decimal.specs.Printed.{up_text}
 use Rattle.fx_tool.specs.declared.inequality.Inequality.{Inequality}
-use Rattle.fx_tool.specs.declared.inequality.Inequality.TheVariants.{Accumulator, InputWidth, OutputWidth, Sweep, Bound, Word, Sum, Error, Wanted}
+use Rattle.fx_tool.specs.declared.inequality.Inequality.TheVariants.{Accumulator, InputWidth, OutputWidth}
+use Rattle.fx_tool.specs.declared.inequality.Inequality.TheVariants.{Sweep, Bound, Word, Sum, Error, Wanted}
 use Rattle.fx_tool.specs.declared.inequality.Refusal.{Refusal}
 
 -- e / 2 ^ 64 in nine places, rounded up in the last
@@ -33,4 +34,5 @@ name_of (Wanted j) = codes "I7 output " ++ decimal j
 
 -- of a refused one: the first inequality that fails, and both sides
 abbrev pub refused_text : Refusal → List ℕ
-refused_text r = codes "refused " ++ (name_of r.which ++ (codes " " ++ (decimal r.left ++ (codes " " ++ (decimal r.right ++ codes "\n")))))
+refused_text r = codes "refused " ++
+    (name_of r.which ++ (codes " " ++ (decimal r.left ++ (codes " " ++ (decimal r.right ++ codes "\n")))))

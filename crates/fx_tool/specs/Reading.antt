@@ -11,15 +11,16 @@ Has (Some files) name P = IsSomeAnd (get files name) P
 -- nothing was read, or the beginning of the file
 abbrev pub SoFar : Option Files → List ℕ → List ℕ → Type 0
 SoFar None name bytes = ⊤
-SoFar (Some files) name bytes = (bytes ≡ []) ⊎ IsSomeAnd (get files name) (λ content. bytes ≡ take (length bytes) content)
+SoFar (Some files) name bytes =
+    (bytes ≡ []) ⊎ IsSomeAnd (get files name) (λ content. bytes ≡ take (length bytes) content)
 
 -- the content, where it is no longer than the limit
 abbrev pub HoldsContent : ℕ → Option (List ℕ) → List ℕ → Type 0
 HoldsContent limit None content = limit < length content
 HoldsContent limit (Some bytes) content = (content ≡ bytes) × (length content ≤ limit)
 
--- The most calls that a read of a whole file takes: one more than its bytes, one more than the limit where it is longer, and
--- one for an absent file.
+-- The most calls that a read of a whole file takes: one more than its bytes, one more than the limit where it is
+-- longer, and one for an absent file.
 abbrev pub content_calls : ℕ → Option (List ℕ) → ℕ
 content_calls limit None = 1
 content_calls limit (Some content) = min (length content) limit + 1

@@ -64,7 +64,8 @@ calls_of words told = let c = command_of words in plan_calls (operands_to c) (na
 
 -- the run follows the plan of the words
 abbrev pub FollowsWords : List (List ℕ) → Outside → Outside → Result Answer IoFault → Type 0
-FollowsWords words before now result = let c = command_of words in Follows (operands_to c) (names_to c) (plan_to c) before now result
+FollowsWords words before now result = let c = command_of words in
+    Follows (operands_to c) (names_to c) (plan_to c) before now result
 
 -- ---- a run
 
@@ -76,15 +77,17 @@ with_placed (p ∷ ps) files = with_placed ps (insert files p.0 p.1)
 -- with the answer's status the files are the old ones with those that it places
 abbrev pub PlacesAnswer : List (List ℕ) → Option Files → Option Files → Status → Type 0
 PlacesAnswer words before after status =
-    WhereTold before (λ files. status ≡ (answer_of words files).status → after ≡ Some (with_placed (answer_of words files).placed files))
+    WhereTold before (λ files. status ≡ (answer_of words files).status →
+    after ≡ Some (with_placed (answer_of words files).placed files))
 
 -- what status 0 claims, where the shelf tells its files
 abbrev pub DoneClaims : List (List ℕ) → Option Files → Option (List ℕ) → Option (List ℕ) → Type 0
 DoneClaims words told before after =
     WhereTold told (λ files. IsSomeAnd (command_of words) (λ c. Claims c.verb c.names files before after))
 
--- What a run gives, and leaves of shelf and output. The status and the text are those of the answer, or a read, a write or
--- memory failed; a fault was counted just where it is the status. The shelf was only read, in no more calls than the plan takes.
+-- What a run gives, and leaves of shelf and output. The status and the text are those of the answer, or a read, a write
+-- or memory failed; a fault was counted just where it is the status. The shelf was only read, in no more calls than the
+-- plan takes.
 pub record Leaves (words : List (List ℕ)) (shelf shelf' : Outside) (out out' : Output) (status : Status) : Type 0 where
   pub answer : OfWords words shelf.files (λ a. Delivers a status out.told out'.told)
   pub quiet : status ≡ ReadFault → out'.told ≡ out.told

@@ -1,7 +1,10 @@
 -- The numbers of the statuses.
 use Rattle.std.specs.Prelude.{ℕ, Bool, true, false, ◌||◌, IsTrue}
 use Rattle.fx_tool.specs.declared.status.Status.{Status}
-use Rattle.fx_tool.specs.declared.status.Status.TheVariants.{Done, Refused, Usage, BadFilter, BadCode, BadCertificate, BadSamples, NoDesign, ReadFault, WriteFault, TooLong, Unbuildable, NoMemory, NotBuiltYet}
+use Rattle.fx_tool.specs.declared.status.Status.TheVariants.{Done, Refused, Usage, BadFilter, BadCode}
+use Rattle.fx_tool.specs.declared.status.Status.TheVariants.{BadCertificate, BadSamples, NoDesign, ReadFault}
+use Rattle.fx_tool.specs.declared.status.Status.TheVariants.{WriteFault, TooLong, Unbuildable, NoMemory}
+use Rattle.fx_tool.specs.declared.status.Status.TheVariants.{NotBuiltYet}
 
 abbrev pub number_of : Status → ℕ
 number_of Done = 0

@@ -1,5 +1,6 @@
 -- Fixed texts, and numbers after them.
-use Rattle.std.specs.Prelude.{ℕ, nat_eq, Bool, true, false, List, length, drop, codes, Option, Some, None, option_and_then, if◌then◌else◌}
+use Rattle.std.specs.Prelude.{ℕ, nat_eq, Bool, true, false, List, length, drop, codes, Option, Some, None}
+use Rattle.std.specs.Prelude.{option_and_then, if◌then◌else◌}
 use Rattle.std.specs.List.{starts_with}
 use Rattle.fx_nums.specs.Whole.{whole_in}
 

@@ -1,7 +1,18 @@
 //! The commands: their words, the files that they read, and what the words of a command line ask for.
 ghost use Rattle.std.specs.Prelude.{◌≡◌, option_map, length, IfSome};
 ghost use Rattle.std.specs.List.{list_all};
-ghost use Rattle.fx_tool.specs.Command.{command_of, is_plain, named, names_fit, operands_of, texts, verb_in, verb_of, with_names, word_of};
+ghost use Rattle.fx_tool.specs.Command.{
+  command_of,
+  is_plain,
+  named,
+  names_fit,
+  operands_of,
+  texts,
+  verb_in,
+  verb_of,
+  with_names,
+  word_of,
+};
 
 use crate::operand::Operand;
 

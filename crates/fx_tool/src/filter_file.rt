@@ -2,7 +2,15 @@
 
 ghost use Rattle.std.specs.Prelude.{◌≡◌, ◌≤ℤ◌, pos, ◌≤◌, ◌<◌, ◌^◌, IfSome, drop, length, option_map};
 ghost use Rattle.fx_tool.specs.ConstantFilter.{IsWidth};
-ghost use Rattle.fx_tool.specs.FilterReading.{FilterLaw, accumulator_in, coefficient_in, filter_in, input_in, output_in, width_in};
+ghost use Rattle.fx_tool.specs.FilterReading.{
+  FilterLaw,
+  accumulator_in,
+  coefficient_in,
+  filter_in,
+  input_in,
+  output_in,
+  width_in,
+};
 
 use crate::constant::ConstantFilter;
 use crate::numeral::{numeral_at, plain_numerals_mean_fractions, unsigned_at};

@@ -10,8 +10,8 @@ pub enum Inequality {
     /// The difference of code and filter, of this target, weighs this input with less than 2^24. Both sides are at the
     /// scale 2^-64.
     Sweep(u8, u8),
-    /// The bound of this row is at least the most that the row can reach. The code's rows come first, then the filter's.
-    /// Both sides are at the scale 2^-64.
+    /// The bound of this row is at least the most that the row can reach. The code's rows come first, then the
+    /// filter's. Both sides are at the scale 2^-64.
     Bound(u8),
     /// The word of this row holds its bound. Both sides are words.
     Word(u8),

@@ -6,7 +6,22 @@ ghost use Rattle.fx_tool.specs.Claim.{certificate_of};
 ghost use Rattle.fx_tool.specs.Certificate.{CertificateFits};
 ghost use Rattle.fx_tool.specs.ConstantCode.{HasTerm};
 ghost use Rattle.fx_tool.specs.ConstantFilter.{target_of};
-ghost use Rattle.fx_tool.specs.Inequalities.{at_most, at_most_signed, below, code_gain, code_total, difference_total, equal, filter_gain, filter_total, first_refusal, first_weight, gain_difference, half_step, refusal_told};
+ghost use Rattle.fx_tool.specs.Inequalities.{
+  at_most,
+  at_most_signed,
+  below,
+  code_gain,
+  code_total,
+  difference_total,
+  equal,
+  filter_gain,
+  filter_total,
+  first_refusal,
+  first_weight,
+  gain_difference,
+  half_step,
+  refusal_told,
+};
 
 use crate::certificate::Claim;
 use crate::constant::ConstantFilter;

@@ -49,7 +49,8 @@ fn plain_at(text: &[u8], at: usize) -> Option<usize>
 fn value_at(text: &[u8], from: usize, digits: usize) -> Option<(Frac, usize)>
     requires from { from ≤ digits }
     requires digits { digits ≤ length text.now }
-    ensures read { option_map (λ p. (p.0, drop p.1 text.now)) result ≡ value_in (drop from text.now) (drop digits text.now) }
+    ensures read { option_map (λ p. (p.0, drop p.1 text.now)) result
+        ≡ value_in (drop from text.now) (drop digits text.now) }
     ensures within { IfSome result (λ p. p.1 ≤ length text.now) }
 {
     let end = plain_at(text, digits)?;

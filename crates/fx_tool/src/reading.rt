@@ -10,7 +10,8 @@ use std::alloc::Global;
 /// The most bytes that one read asks for.
 pub const PIECE: usize = 65_536;
 
-// Reads one piece behind the bytes that were read, up to one byte past the limit, and says whether there may be another.
+// Reads one piece behind the bytes that were read, up to one byte past the limit, and says whether there may be
+// another.
 fn read_piece<S: Shelf>(
     shelf: &mut S,
     name: &str,

@@ -51,7 +51,9 @@ fn name_of(alloc: Global, which: Inequality) -> Result<String, AllocError>
 }
 
 fn refused_line(alloc: Global, name: &str, left: u128, right: u128) -> Result<String, AllocError>
-    ensures { IfOk result (λ t. string_bytes t ≡ codes "refused " ++ (name.now ++ (codes " " ++ (decimal left ++ (codes " " ++ (decimal right ++ codes "\n")))))) }
+    ensures { IfOk result (λ t.
+        string_bytes t ≡ codes "refused " ++
+        (name.now ++ (codes " " ++ (decimal left ++ (codes " " ++ (decimal right ++ codes "\n")))))) }
 {
     format!(in alloc; "refused {name} {left} {right}\n")
 }

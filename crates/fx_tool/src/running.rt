@@ -62,13 +62,13 @@ fn answer<S: Shelf, K: Sink>(alloc: Global, words: &[String], shelf: &mut S, out
 }
 
 /// Runs a command line: the program's name, a command and its operands. It reads the files that the words name and puts
-/// a text; what it gives is the answer of the words and the files, unless a read, a write or memory fails. Then nothing is
-/// put after a failed read, and the first bytes of the text after a failed write or want of memory.
+/// a text; what it gives is the answer of the words and the files, unless a read, a write or memory fails. Then nothing
+/// is put after a failed read, and the first bytes of the text after a failed write or want of memory.
 ///
-/// With `Done` of `check`: for every list of input words within the filter's bounds, of any length, every row of the code
-/// ends with the exact sum in its accumulator, every stored word lies in its format, and every output differs from the
-/// filter's exact output by at most the certificate's error, which is the one printed. With `Done` of the other commands:
-/// the files were read as what they stand for, and all of that was put.
+/// With `Done` of `check`: for every list of input words within the filter's bounds, of any length, every row of the
+/// code ends with the exact sum in its accumulator, every stored word lies in its format, and every output differs from
+/// the filter's exact output by at most the certificate's error, which is the one printed. With `Done` of the other
+/// commands: the files were read as what they stand for, and all of that was put.
 pub fn run<S: Shelf, K: Sink>(alloc: Global, words: &[String], shelf: &mut S, out: &mut K) -> Status
     requires { CanRead (S.seen shelf.old) (texts words.now) }
     ensures { Runs (texts words.now) (S.seen shelf.old) (S.seen shelf.new)

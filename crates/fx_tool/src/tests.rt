@@ -43,7 +43,8 @@ const ACCEPTED: &[u8] = b"accepted\nerror 0 0.500000000\n";
 // The words of `check` on the files f, c and k.
 #[tactic(auto, unfolding(crate::specs::Command::command_of, crate::specs::Command::verb_of, crate::specs::Command::verb_in))]
 fn check_words(alloc: Global) -> Result<Vec<String>, AllocError>
-    ensures { IfOk result (λ words. names_to (command_of (texts words.items)) ≡ codes "f" ∷ codes "c" ∷ codes "k" ∷ []) }
+    ensures { IfOk result (λ words. names_to (command_of (texts words.items))
+        ≡ codes "f" ∷ codes "c" ∷ codes "k" ∷ []) }
 {
     let name = String::from_str(alloc, "fixif")?;
     let command = String::from_str(alloc, "check")?;

@@ -10,6 +10,8 @@ use Rattle.fx_block.proofs.least.holds.Goals as goal
 pub returns : goal.returns
 returns g c net targets lengths filled =
     let fits : FitsSigned w128 c.total.result = search rules in
-    serves_so c.args.t.now net targets lengths c.args.j (bound_in c.args.bounds.now) (bound_in c.args.x.now) c.total.result c.is_within.result filled c.requires.filled
+    serves_so c.args.t.now net targets lengths c.args.j (bound_in c.args.bounds.now) (bound_in c.args.x.now)
+    c.total.result c.is_within.result filled c.requires.filled
     (c.total.ensures.total net targets lengths filled)
-    (subst (λ y. (c.is_within.result ≡ true) ↔ (y ≤ℤ (pos (bound_in c.args.x.now c.args.j) *ℤ one))) (to_z-of_z w128 c.total.result fits) c.is_within.ensures)
+    (subst (λ y. (c.is_within.result ≡ true) ↔ (y ≤ℤ (pos (bound_in c.args.x.now c.args.j) *ℤ one)))
+    (to_z-of_z w128 c.total.result fits) c.is_within.ensures)

@@ -12,15 +12,18 @@ loop-init g c = record {
   room = search rules;
   fits = c.clear.ensures.fits;
   past = λ j l. c.clear.ensures.zero j;
-  same = begins (kept_raise c.args.t.now c.filled_rows-rows.result (bound_in c.args.bounds.now)) c.filled_rows-rows.result (bound_in c.args.caps.now) (bound_in c.clear.new.x) c.clear.ensures.zero;
+  same = begins (kept_raise c.args.t.now c.filled_rows-rows.result (bound_in c.args.bounds.now))
+      c.filled_rows-rows.result (bound_in c.args.caps.now) (bound_in c.clear.new.x) c.clear.ensures.zero;
 }
 
 pub returns-then-not-is_slow-clause-end : goal.returns-then-not-is_slow-clause-end
 returns-then-not-is_slow-clause-end g c net targets lengths filled all =
     let stop : is_slow c.raise_once-least.result ≡ false = grind (arith, common_steps) in
-    told_least c.args.t.now net targets lengths filled (bound_in c.args.bounds.now) (bound_in c.args.caps.now) (bound_in c.loop.x) c.filled_rows-rows.result c.raise_once-least.result
+    told_least c.args.t.now net targets lengths filled (bound_in c.args.bounds.now) (bound_in c.args.caps.now)
+    (bound_in c.loop.x) c.filled_rows-rows.result c.raise_once-least.result
     (c.filled_rows-rows.ensures.all all)
-    (ends_after (kept_raise c.args.t.now c.filled_rows-rows.result (bound_in c.args.bounds.now)) c.filled_rows-rows.result (bound_in c.args.caps.now) c.loop.counter (bound_in c.loop.x)
+    (ends_after (kept_raise c.args.t.now c.filled_rows-rows.result (bound_in c.args.bounds.now))
+    c.filled_rows-rows.result (bound_in c.args.caps.now) c.loop.counter (bound_in c.loop.x)
     c.raise_once-least.result stop c.raise_once-least.ensures.tells c.loop.invariant.same)
 
 pub loop-preserved : goal.loop-preserved
@@ -35,9 +38,12 @@ loop-preserved g c =
       room = search rules;
       fits = subst (λ ys. AreBounds ys) (sym copied) (c.raise_once-least.ensures.fits slow);
       past = subst (λ ys. (j : ℕ) → n ≤ j → bound_in ys j ≡ 0) (sym copied)
-          (λ j l. ap (λ (f : ℕ → ℕ). f j) value ∙ raise_past c.args.t.now n (bound_in c.args.bounds.now) (bound_in c.loop.x) j l);
-      same = subst (λ ys. raises_by step n (bound_in c.args.caps.now) 63 (λ j. 0) ≡ raises_by step n (bound_in c.args.caps.now) (63 - (c.loop.counter + 1)) (bound_in ys)) (sym copied)
-          (raised_again step n (bound_in c.args.caps.now) c.loop.counter (bound_in c.loop.x) (bound_in c.raise_once-least.new.next) c.raise_once-least.result
+          (λ j l. ap (λ (f : ℕ → ℕ). f j) value
+          ∙ raise_past c.args.t.now n (bound_in c.args.bounds.now) (bound_in c.loop.x) j l);
+      same = subst (λ ys. raises_by step n (bound_in c.args.caps.now) 63 (λ j. 0)
+          ≡ raises_by step n (bound_in c.args.caps.now) (63 - (c.loop.counter + 1)) (bound_in ys)) (sym copied)
+          (raised_again step n (bound_in c.args.caps.now) c.loop.counter (bound_in c.loop.x)
+          (bound_in c.raise_once-least.new.next) c.raise_once-least.result
           (omega (arith, c.loop-test.true)) slow c.raise_once-least.ensures.tells value c.loop.invariant.same);
     }
 
@@ -46,8 +52,11 @@ returns-clause-end g c net targets lengths filled all =
     let n = c.filled_rows-rows.result in
     let step = kept_raise c.args.t.now n (bound_in c.args.bounds.now) in
     let done : c.loop.counter ≡ 63 = omega (arith, c.loop-test.false, c.loop.auto.counter-end) in
-    let same : raises_by step n (bound_in c.args.caps.now) 63 (λ j. 0) ≡ raises_by step n (bound_in c.args.caps.now) 0 (bound_in c.loop.x) =
-    subst (λ k. raises_by step n (bound_in c.args.caps.now) 63 (λ j. 0) ≡ raises_by step n (bound_in c.args.caps.now) (63 - k) (bound_in c.loop.x)) done c.loop.invariant.same in
-    told_least c.args.t.now net targets lengths filled (bound_in c.args.bounds.now) (bound_in c.args.caps.now) (bound_in c.loop.x) n c.raise_once.result
+    let same : raises_by step n (bound_in c.args.caps.now) 63 (λ j. 0)
+    ≡ raises_by step n (bound_in c.args.caps.now) 0 (bound_in c.loop.x) =
+    subst (λ k. raises_by step n (bound_in c.args.caps.now) 63 (λ j. 0)
+    ≡ raises_by step n (bound_in c.args.caps.now) (63 - k) (bound_in c.loop.x)) done c.loop.invariant.same in
+    told_least c.args.t.now net targets lengths filled (bound_in c.args.bounds.now) (bound_in c.args.caps.now)
+    (bound_in c.loop.x) n c.raise_once.result
     (c.filled_rows-rows.ensures.all all)
     (subst (λ r. Tells r c.raise_once.result (bound_in c.loop.x)) (sym same) c.raise_once.ensures.tells)

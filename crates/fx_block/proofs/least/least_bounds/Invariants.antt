@@ -10,5 +10,7 @@ invariant-loop g l = record {
   room : length l.scratch ≡ length l.initial.scratch;
   fits : AreBounds l.x;
   past : (j : ℕ) → l.rows ≤ j → bound_in l.x j ≡ 0;
-  same : raises_by (kept_raise l.t l.rows (bound_in l.bounds)) l.rows (bound_in l.caps) 63 (λ j. 0) ≡ raises_by (kept_raise l.t l.rows (bound_in l.bounds)) l.rows (bound_in l.caps) (63 - l.counter) (bound_in l.x);
+  same : raises_by (kept_raise l.t l.rows (bound_in l.bounds)) l.rows (bound_in l.caps) 63 (λ j. 0)
+      ≡ raises_by (kept_raise l.t l.rows (bound_in l.bounds)) l.rows (bound_in l.caps) (63 - l.counter)
+      (bound_in l.x);
 }

@@ -8,10 +8,13 @@ use Rattle.fx_block.proofs.least.raise_once.Goals as goal
 
 pub returns-clause-tells : goal.returns-clause-tells
 returns-clause-tells g c =
-    subst (λ next. Tells (ended_by c.args.rows (bound_in c.args.caps.now) (bound_in c.args.x.now) next (λ j. Slow j (bound_in c.args.x.now j) (next j))) c.end_of.result (bound_in c.args.x.now))
+    subst (λ next. Tells (ended_by c.args.rows (bound_in c.args.caps.now) (bound_in c.args.x.now) next (λ j.
+    Slow j (bound_in c.args.x.now j) (next j))) c.end_of.result (bound_in c.args.x.now))
     c.raise.ensures.value c.end_of.ensures.tells
 
 pub returns-clause-fits : goal.returns-clause-fits
 returns-clause-fits g c slow =
-    within_caps c.args.caps.now c.raise.new.next (2 ^ 62) c.args.rows c.requires.caps c.raise.ensures.fits (c.end_of.ensures.within slow)
-    (λ j l. ap (λ f. f j) c.raise.ensures.value ∙ raise_past c.args.t.now c.args.rows (bound_in c.args.bounds.now) (bound_in c.args.x.now) j l)
+    within_caps c.args.caps.now c.raise.new.next (2 ^ 62) c.args.rows c.requires.caps c.raise.ensures.fits
+    (c.end_of.ensures.within slow)
+    (λ j l. ap (λ f. f j) c.raise.ensures.value
+    ∙ raise_past c.args.t.now c.args.rows (bound_in c.args.bounds.now) (bound_in c.args.x.now) j l)

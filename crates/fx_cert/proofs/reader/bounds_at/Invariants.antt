@@ -7,5 +7,6 @@ use Rattle.fx_cert.proofs.reader.bounds_at.Given as goal
 abbrev pub invariant-loop-i : goal.invariant-loop-i
 invariant-loop-i l = record {
   count : length l.bounds.items ≡ l.i;
-  goes_on : with_front l.bounds.items (each_at (bound_at l.rows) (l.rows - l.i) l.i (lines_of l.rest)) ≡ each_at (bound_at l.rows) l.rows 0 (lines_of l.bytes);
+  goes_on : with_front l.bounds.items (each_at (bound_at l.rows) (l.rows - l.i) l.i (lines_of l.rest))
+      ≡ each_at (bound_at l.rows) l.rows 0 (lines_of l.bytes);
 }

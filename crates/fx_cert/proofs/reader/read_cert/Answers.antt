@@ -11,7 +11,9 @@ pub returns-clause-found : goal.returns-clause-found
 returns-clause-found c = is_found c.args.bytes.now c.certificate_in.result c.certificate_in.ensures
 
 pub returns-clause-only : goal.returns-clause-only
-returns-clause-only c = λ d h. subst (λ r. Gives is_memory (λ x. x) c.certificate_in.result r) (text_is_read c.args.bytes.now d h) c.certificate_in.ensures
+returns-clause-only c = λ d h.
+    subst (λ r. Gives is_memory (λ x. x) c.certificate_in.result r) (text_is_read c.args.bytes.now d h)
+    c.certificate_in.ensures
 
 pub returns-clause-first : goal.returns-clause-first
 returns-clause-first c = tells_first (lines_of c.args.bytes.now) c.certificate_in.result c.certificate_in.ensures

@@ -10,5 +10,6 @@ pub unreachable-requires : goal.unreachable-requires
 unreachable-requires g c =
     let wide : FitsSigned w128 c.weight.result = search rules in
     let fits : FitsSigned w64 c.weight.result = search (rules, c.weight.ensures, c.requires.fits.product) in
-    let same : to_z w64 (of_z w64 (to_z w128 (of_z w128 c.weight.result))) ≡ weight c.args.term.now = rw (to_z-of_z w128 c.weight.result wide, to_z-of_z w64 c.weight.result fits) c.weight.ensures in
+    let same : to_z w64 (of_z w64 (to_z w128 (of_z w128 c.weight.result))) ≡ weight c.args.term.now =
+    rw (to_z-of_z w128 c.weight.result wide, to_z-of_z w64 c.weight.result fits) c.weight.ensures in
     c.in_default.ensures (fraction_fits c.args.term.now c.args.shift _ same c.requires.shift c.requires.fits)

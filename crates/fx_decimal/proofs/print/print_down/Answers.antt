@@ -6,14 +6,17 @@ use Rattle.fx_decimal.proofs.print.print_down.Goals as goal
 
 pub returns-then-v-lt0 : goal.returns-then-v-lt0
 returns-then-v-lt0 c =
-    let back : to_z w128 (of_z w128 c.args.v) ≡ c.args.v = to_z-of_z w128 c.args.v (fits_signed_from_abs w128 c.args.v (omega (arith, c.requires.range))) in
+    let back : to_z w128 (of_z w128 c.args.v) ≡ c.args.v =
+    to_z-of_z w128 c.args.v (fits_signed_from_abs w128 c.args.v (omega (arith, c.requires.range))) in
     let size : c.unsigned_abs.result ≡ unsigned_abs c.args.v = rw back at c.unsigned_abs.ensures.value in
     let below : c.args.v <ℤ pos 0 = omega (arith, ints) in
     c.rounded.ensures ∙ rw size (down_below c.args.v c.args.places below)
 
 pub returns-else-v-lt0 : goal.returns-else-v-lt0
 returns-else-v-lt0 c =
-    let back : to_z w128 (of_z w128 c.args.v) ≡ c.args.v = to_z-of_z w128 c.args.v (fits_signed_from_abs w128 c.args.v (omega (arith, c.requires.range))) in
-    let size : c.unsigned_abs-else-v-lt0.result ≡ unsigned_abs c.args.v = rw back at c.unsigned_abs-else-v-lt0.ensures.value in
+    let back : to_z w128 (of_z w128 c.args.v) ≡ c.args.v =
+    to_z-of_z w128 c.args.v (fits_signed_from_abs w128 c.args.v (omega (arith, c.requires.range))) in
+    let size : c.unsigned_abs-else-v-lt0.result ≡ unsigned_abs c.args.v =
+    rw back at c.unsigned_abs-else-v-lt0.ensures.value in
     let above : pos 0 ≤ℤ c.args.v = omega (arith, ints) in
     c.rounded-else-v-lt0.ensures ∙ rw size (down_above c.args.v c.args.places above)

@@ -8,11 +8,14 @@ pub loop-digit-preserved : goal.loop-digit-preserved
 loop-digit-preserved c =
     let digit = get_or c.args.digits.now c.loop-digit.digit-index 0 in
     let rest = drop (c.loop-digit.digit-index + 1) c.args.digits.now in
-    let cut : drop c.loop-digit.digit-index c.args.digits.now ≡ digit ∷ rest = rw add-one (drop-cons c.args.digits.now c.loop-digit.digit-index 0 c.loop-digit-test.true) in
+    let cut : drop c.loop-digit.digit-index c.args.digits.now ≡ digit ∷ rest =
+    rw add-one (drop-cons c.args.digits.now c.loop-digit.digit-index 0 c.loop-digit-test.true) in
     let all : AllByRecursion IsDigit (digit ∷ rest) = rw cut at c.loop-digit.invariant.digits in
-    let value : min (number_from c.loop-digit.number (digit ∷ rest)) 9999 ≡ min (number_from 0 c.args.digits.now) 9999 = rw cut at c.loop-digit.invariant.value in
+    let value : min (number_from c.loop-digit.number (digit ∷ rest)) 9999
+    ≡ min (number_from 0 c.args.digits.now) 9999 = rw cut at c.loop-digit.invariant.value in
     record {
-      value = rw (c.min-number.ensures, c.from.ensures) (clip_once (10 * c.loop-digit.number + (digit - 48)) rest ∙ value);
+      value = rw (c.min-number.ensures, c.from.ensures)
+          (clip_once (10 * c.loop-digit.number + (digit - 48)) rest ∙ value);
       digits = all.1;
       small = omega arith;
     }

@@ -6,6 +6,7 @@ use Rattle.fx_decimal.proofs.value.raised.Goals as goal
 
 pub returns-then-power-gt-GREATEST_POWER : goal.returns-then-power-gt-GREATEST_POWER
 returns-then-power-gt-GREATEST_POWER c =
-    let far : 2 ^ 24 ≤ c.args.number * 10 ^ c.args.power = raised_far c.args.number c.args.power c.requires.some c.if-power-gt-GREATEST_POWER.true in
+    let far : 2 ^ 24 ≤ c.args.number * 10 ^ c.args.power =
+    raised_far c.args.number c.args.power c.requires.some c.if-power-gt-GREATEST_POWER.true in
     let test : nat_lt (c.args.number * 10 ^ c.args.power) (2 ^ 24 * 10 ^ 0) ≡ false = grind (arith, nat_tests) in
     rw test refl

@@ -4,4 +4,5 @@ use Rattle.fx_eqs.specs.Lags.{greatest_lag}
 use Rattle.fx_eqs.proofs.checks.greatest_lag.Given as goal
 
 abbrev pub invariant-loop-term : goal.invariant-loop-term
-invariant-loop-term l = (max l.greatest (greatest_lag l.source (filter is_kept (drop l.term-index l.terms))) ≡ greatest_lag l.source (filter is_kept l.terms)) × (l.greatest ≤ 255)
+invariant-loop-term l = (max l.greatest (greatest_lag l.source (filter is_kept (drop l.term-index l.terms)))
+    ≡ greatest_lag l.source (filter is_kept l.terms)) × (l.greatest ≤ 255)

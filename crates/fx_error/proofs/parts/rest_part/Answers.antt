@@ -11,12 +11,19 @@ loop-i-preserved g c =
     let number_fits : FitsSigned w128 c.rest.result = search rules in
     let product_fits : FitsSigned w128 c.bounded.result = search rules in
     let sum_fits : FitsSigned w128 c.sum-all.result = search rules in
-    let here : c.bounded.result ≡ kept_rest c.args.t.now c.args.target c.loop-i.i *ℤ pos (bound_in c.args.x.now c.loop-i.i) =
-    c.bounded.ensures.value ∙ ap (λ z. z *ℤ pos (bound_in c.args.x.now c.loop-i.i)) (to_z-of_z w128 c.rest.result number_fits ∙ c.rest.ensures.value) in
-    let e : c.sum-all.result ≡ to_z w128 c.loop-i.all-bits +ℤ c.bounded.result = c.sum-all.ensures.value ∙ ap (λ x. to_z w128 c.loop-i.all-bits +ℤ x) (to_z-of_z w128 c.bounded.result product_fits) in
+    let here : c.bounded.result
+    ≡ kept_rest c.args.t.now c.args.target c.loop-i.i *ℤ pos (bound_in c.args.x.now c.loop-i.i) =
+    c.bounded.ensures.value ∙ ap (λ z. z *ℤ pos (bound_in c.args.x.now c.loop-i.i))
+    (to_z-of_z w128 c.rest.result number_fits ∙ c.rest.ensures.value) in
+    let e : c.sum-all.result ≡ to_z w128 c.loop-i.all-bits +ℤ c.bounded.result =
+    c.sum-all.ensures.value ∙ ap (λ x. to_z w128 c.loop-i.all-bits +ℤ x)
+    (to_z-of_z w128 c.bounded.result product_fits) in
     let s = to_z-of_z w128 c.sum-all.result sum_fits in
     record {
-      value = s ∙ one_more_total c.loop-i.i (λ i. kept_rest c.args.t.now c.args.target i *ℤ pos (bound_in c.args.x.now i)) _ _ _ e c.loop-i.invariant.value here;
+      value = s ∙ one_more_total c.loop-i.i (λ i.
+          kept_rest c.args.t.now c.args.target i *ℤ pos (bound_in c.args.x.now i)) _ _ _ e
+          c.loop-i.invariant.value here;
       fits = subst (λ x. IsUpTo ((c.loop-i.i + 1) * 2 ^ 119) x) (sym s)
-          (one_more_fits c.loop-i.i (2 ^ 119) (to_z w128 c.loop-i.all-bits) c.bounded.result c.sum-all.result e c.loop-i.invariant.fits c.bounded.ensures.fits);
+          (one_more_fits c.loop-i.i (2 ^ 119) (to_z w128 c.loop-i.all-bits) c.bounded.result c.sum-all.result e
+          c.loop-i.invariant.fits c.bounded.ensures.fits);
     }

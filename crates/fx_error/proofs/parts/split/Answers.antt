@@ -17,13 +17,18 @@ returns-clause-parts g c net targets lengths filled =
     let e : FitsSigned w128 c.rest_part.result = search rules in
     let s : FitsSigned w128 c.sum-difference.result = search rules in
     let size = sym c.totals_fit.ensures.size in
-    let widths = to_z-of_z w128 c.width_part.result d ∙ c.width_part.ensures.value ∙ ap (λ n. total n (λ i. kept_width c.args.t.now c.args.target i *ℤ pos (bound_in c.args.x.now i))) size in
+    let widths = to_z-of_z w128 c.width_part.result d ∙ c.width_part.ensures.value
+    ∙ ap (λ n. total n (λ i. kept_width c.args.t.now c.args.target i *ℤ pos (bound_in c.args.x.now i))) size
+    in
     let inside : c.args.target < length targets = omega (arith, c.requires.target, filled.count) in
-    are_parts c.args.t.now c.args.target net (start_of (target_in targets c.args.target)) (length_in lengths c.args.target) (bound_in c.args.bounds.now) (bound_in c.args.x.now) _ filled.size
+    are_parts c.args.t.now c.args.target net (start_of (target_in targets c.args.target))
+    (length_in lengths c.args.target) (bound_in c.args.bounds.now) (bound_in c.args.x.now) _ filled.size
     (filled.numbers c.args.target inside) (record {
       rounding_is = to_z-of_z w128 c.rounding.result a ∙ c.rounding.ensures.value;
-      difference_is = to_z-of_z w128 c.sum-difference.result s ∙ c.sum-difference.ensures.value ∙ ap₂ (λ x y. x +ℤ y) (to_z-of_z w128 c.input_part.result b ∙ c.input_part.ensures.value) widths;
-      rest_is = to_z-of_z w128 c.rest_part.result e ∙ c.rest_part.ensures.value ∙ ap (λ n. total n (λ i. kept_rest c.args.t.now c.args.target i *ℤ pos (bound_in c.args.x.now i))) size;
+      difference_is = to_z-of_z w128 c.sum-difference.result s ∙ c.sum-difference.ensures.value
+          ∙ ap₂ (λ x y. x +ℤ y) (to_z-of_z w128 c.input_part.result b ∙ c.input_part.ensures.value) widths;
+      rest_is = to_z-of_z w128 c.rest_part.result e ∙ c.rest_part.ensures.value
+          ∙ ap (λ n. total n (λ i. kept_rest c.args.t.now c.args.target i *ℤ pos (bound_in c.args.x.now i))) size;
     })
 
 pub returns-clause-total : goal.returns-clause-total
@@ -34,9 +39,13 @@ returns-clause-total g c =
     let e : FitsSigned w128 c.rest_part.result = search rules in
     let s : FitsSigned w128 c.sum-difference.result = search rules in
     let size = sym c.totals_fit.ensures.size in
-    let widths = to_z-of_z w128 c.width_part.result d ∙ c.width_part.ensures.value ∙ ap (λ n. total n (λ i. kept_width c.args.t.now c.args.target i *ℤ pos (bound_in c.args.x.now i))) size in
+    let widths = to_z-of_z w128 c.width_part.result d ∙ c.width_part.ensures.value
+    ∙ ap (λ n. total n (λ i. kept_width c.args.t.now c.args.target i *ℤ pos (bound_in c.args.x.now i))) size
+    in
     parts_add_up c.args.t.now c.args.target (bound_in c.args.bounds.now) (bound_in c.args.x.now) _ (record {
       rounding_is = to_z-of_z w128 c.rounding.result a ∙ c.rounding.ensures.value;
-      difference_is = to_z-of_z w128 c.sum-difference.result s ∙ c.sum-difference.ensures.value ∙ ap₂ (λ x y. x +ℤ y) (to_z-of_z w128 c.input_part.result b ∙ c.input_part.ensures.value) widths;
-      rest_is = to_z-of_z w128 c.rest_part.result e ∙ c.rest_part.ensures.value ∙ ap (λ n. total n (λ i. kept_rest c.args.t.now c.args.target i *ℤ pos (bound_in c.args.x.now i))) size;
+      difference_is = to_z-of_z w128 c.sum-difference.result s ∙ c.sum-difference.ensures.value
+          ∙ ap₂ (λ x y. x +ℤ y) (to_z-of_z w128 c.input_part.result b ∙ c.input_part.ensures.value) widths;
+      rest_is = to_z-of_z w128 c.rest_part.result e ∙ c.rest_part.ensures.value
+          ∙ ap (λ n. total n (λ i. kept_rest c.args.t.now c.args.target i *ℤ pos (bound_in c.args.x.now i))) size;
     })

@@ -7,4 +7,5 @@ pub returns-else-not-is_one : goal.returns-else-not-is_one
 returns-else-not-is_one t c =
     let cs = c.args.coefficients.now in
     let rest = rw (take_all (length cs - 6) (drop 6 cs) (omega (arith, length-drop 6 cs))) at c.each_monic.ensures in
-    rw (← monic_section c.args.key c.args.place cs c.first-item.result c.in-len6-up.len_at_least c.first-item.is (sym c.is_one.ensures ∙ c.if-not-is_one.false)) rest
+    rw (← monic_section c.args.key c.args.place cs c.first-item.result c.in-len6-up.len_at_least
+    c.first-item.is (sym c.is_one.ensures ∙ c.if-not-is_one.false)) rest

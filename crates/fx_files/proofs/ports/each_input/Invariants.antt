@@ -7,7 +7,8 @@ use Rattle.fx_files.proofs.ports.each_input.Given as goal
 
 abbrev pub invariant-loop-entry : goal.invariant-loop-entry
 invariant-loop-entry l = record {
-  reads : with_front l.inputs.items (each_input (items_view (drop l.entry-index l.entries))) ≡ each_input (items_view l.entries);
+  reads : with_front l.inputs.items (each_input (items_view (drop l.entry-index l.entries)))
+      ≡ each_input (items_view l.entries);
   count : length l.inputs.items ≡ l.entry-index;
   fits : All InputFits l.inputs.items;
 }

@@ -5,6 +5,7 @@ use Rattle.fx_files.proofs.ports.outputs_fit.Given as goal
 
 abbrev pub invariant-loop-output : goal.invariant-loop-output
 invariant-loop-output l = record {
-  reads : outputs_fit l.inputs.low l.accumulator (drop l.output-index l.outputs) ≡ outputs_fit l.inputs.low l.accumulator l.outputs;
+  reads : outputs_fit l.inputs.low l.accumulator (drop l.output-index l.outputs)
+      ≡ outputs_fit l.inputs.low l.accumulator l.outputs;
   within : All (EntryAgrees l.inputs.low l.accumulator) (take l.output-index l.outputs);
 }

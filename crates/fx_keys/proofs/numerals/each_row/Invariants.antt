@@ -9,7 +9,8 @@ use Rattle.fx_keys.proofs.numerals.each_row.Given as goal
 abbrev pub invariant-loop-row : goal.invariant-loop-row
 invariant-loop-row l = record {
   small : l.place ≤ STATES * l.row-index;
-  reads : with_front l.found.items (each_row l.key l.width l.place (items_view (drop l.row-index l.rows))) ≡ each_row l.key l.width 0 (items_view l.rows);
+  reads : with_front l.found.items (each_row l.key l.width l.place (items_view (drop l.row-index l.rows)))
+      ≡ each_row l.key l.width 0 (items_view l.rows);
   count : length l.found.items ≡ l.row-index * l.width;
   over_ten : All OverTen l.found.items;
 }

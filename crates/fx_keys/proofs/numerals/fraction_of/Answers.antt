@@ -10,4 +10,5 @@ told (Ok c) h = h
 told (Err e) h = tt
 
 pub returns-clause-over_ten : goal.returns-clause-over_ten
-returns-clause-over_ten c = told c.read_decimal.result (subst IsOverTen (sym c.read_decimal.ensures) (of_numeral c.args.text.now))
+returns-clause-over_ten c =
+    told c.read_decimal.result (subst IsOverTen (sym c.read_decimal.ensures) (of_numeral c.args.text.now))

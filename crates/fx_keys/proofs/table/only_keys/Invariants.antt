@@ -5,4 +5,5 @@ use Rattle.fx_keys.proofs.table.only_keys.Given as goal
 
 -- what is left says what all say
 abbrev pub invariant-loop-text : goal.invariant-loop-text
-invariant-loop-text l = only_keys (l.shared ++ l.own) (members_view l.text-iterator) ≡ only_keys (l.shared ++ l.own) (members_view l.table.entries)
+invariant-loop-text l = only_keys (l.shared ++ l.own) (members_view l.text-iterator)
+    ≡ only_keys (l.shared ++ l.own) (members_view l.table.entries)

@@ -8,4 +8,8 @@ pub loop-r-preserved : goal.loop-r-preserved
 loop-r-preserved c =
     let held = joined c.loop-r.r (forward_row c.args.k.now) in
     let next = forward_row c.args.k.now c.loop-r.r in
-    rw (one_more c.loop-r.r (forward_row c.args.k.now), ← append_assoc c.args.entries.now.items held next, ← c.loop-r.invariant) c.in_ok-forward_row.ensures
+    rw (
+      one_more c.loop-r.r (forward_row c.args.k.now),
+      ← append_assoc c.args.entries.now.items held next,
+      ← c.loop-r.invariant,
+    ) c.in_ok-forward_row.ensures

@@ -4,4 +4,5 @@ use Rattle.fx_machine.proofs.prepared.greatest.Given as goal
 
 abbrev pub invariant-loop-term : goal.invariant-loop-term
 invariant-loop-term l =
-    (l.sum + greatest l.program (drop l.term-index l.term-items) ≡ greatest l.program l.term-items) × (l.sum ≤ l.term-index * 2 ^ 93)
+    (l.sum + greatest l.program (drop l.term-index l.term-items) ≡ greatest l.program l.term-items)
+    × (l.sum ≤ l.term-index * 2 ^ 93)

@@ -8,7 +8,8 @@ loop-term-preserved c =
     let below = c.loop-term-test.true in
     let value = sum_further c.args.words.now c.args.terms.now c.loop-term.term-index below in
     let reach = reach_further c.args.words.now c.args.terms.now c.loop-term.term-index below in
-    let product : c.product_64-sum.result ≡ product_at c.args.words.now c.args.terms.now c.loop-term.term-index = c.product_64-sum.ensures in
+    let product : c.product_64-sum.result
+    ≡ product_at c.args.words.now c.args.terms.now c.loop-term.term-index = c.product_64-sum.ensures in
     record {
       value = omega (arith, ints, value, product, c.loop-term.invariant.value);
       reach = omega (arith, ints, reach, product, c.loop-term.invariant.reach);

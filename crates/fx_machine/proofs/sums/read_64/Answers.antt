@@ -8,5 +8,6 @@ use Rattle.fx_machine.proofs.sums.read_64.Goals as goal
 pub returns-clause-accumulator : goal.returns-clause-accumulator
 returns-clause-accumulator c =
     let z : to_z w64 (of_z w64 c.args.sum) ≡ c.args.sum = omega (arith, ints) in
-    let e : is_outside c.args.bits c.args.sum ≡ false = sym (rw z at c.is_outside_64.ensures) ∙ c.if-is_outside_64.false in
+    let e : is_outside c.args.bits c.args.sum ≡ false =
+    sym (rw z at c.is_outside_64.ensures) ∙ c.if-is_outside_64.false in
     z ∙ sym (wrap_inside c.args.bits c.args.sum c.requires.low e)

@@ -17,11 +17,14 @@ returns c =
     let e : bits - 1 ≤ 63 = omega (arith, c.requires.high) in
     let small : 2 ^ (bits - 1) ≤ 2 ^ 63 = pow-le-pow_right (lit< tt) e in
     let own : to_z w128 (of_z w128 z) ≡ z = omega (arith, ints) in
-    let sum : to_z w128 (of_z w128 (to_z w128 (of_z w128 z) +ℤ to_z w128 (of_z w128 half))) ≡ z +ℤ half = omega (arith, ints, c.half_128.ensures.bound, c.requires.fits) in
-    let value : high ≡ floor_div (z +ℤ half) (2 ^ bits) *ℤ pos (2 ^ bits) = c.high_bits.ensures.value ∙ ap (λ x. floor_div x (2 ^ bits) *ℤ pos (2 ^ bits)) sum in
+    let sum : to_z w128 (of_z w128 (to_z w128 (of_z w128 z) +ℤ to_z w128 (of_z w128 half))) ≡ z +ℤ half =
+    omega (arith, ints, c.half_128.ensures.bound, c.requires.fits) in
+    let value : high ≡ floor_div (z +ℤ half) (2 ^ bits) *ℤ pos (2 ^ bits) =
+    c.high_bits.ensures.value ∙ ap (λ x. floor_div x (2 ^ bits) *ℤ pos (2 ^ bits)) sum in
     let same : z -ℤ high ≡ wrap bits z = wrap_is bits z half high c.requires.low c.half_128.ensures.value value in
     let fits : FitsBits bits (wrap bits z) = residue_range bits z c.requires.low in
-    let all : to_z w128 (of_z w128 (to_z w128 (of_z w128 z) -ℤ to_z w128 (of_z w128 high))) ≡ wrap bits z = omega (arith, ints, same, small, fits.low, fits.high) in
+    let all : to_z w128 (of_z w128 (to_z w128 (of_z w128 z) -ℤ to_z w128 (of_z w128 high))) ≡ wrap bits z =
+    omega (arith, ints, same, small, fits.low, fits.high) in
     record {
       value = all;
       below = rw all (omega (arith, ints, small, fits.low));

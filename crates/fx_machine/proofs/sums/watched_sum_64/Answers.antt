@@ -14,10 +14,13 @@ loop-term-preserved c =
     let product : c.product_64-sum.result ≡ product_at c.args.words.now c.args.terms.now i = c.product_64-sum.ensures in
     let sum : ℤ = to_z w64 c.loop-term.sum-bits in
     let next : ℤ = to_z w64 (of_z w64 (sum +ℤ to_z w64 (of_z w64 c.product_64-sum.result))) in
-    let adds : next ≡ sum +ℤ product_at c.args.words.now c.args.terms.now i = omega (arith, ints, product, reach, c.loop-term.invariant.reach) in
-    let outside : c.is_outside_64-left-in-loop-term.result ≡ is_outside c.args.bits next = c.is_outside_64-left-in-loop-term.ensures in
+    let adds : next ≡ sum +ℤ product_at c.args.words.now c.args.terms.now i =
+    omega (arith, ints, product, reach, c.loop-term.invariant.reach) in
+    let outside : c.is_outside_64-left-in-loop-term.result ≡ is_outside c.args.bits next =
+    c.is_outside_64-left-in-loop-term.ensures in
     record {
       value = omega (arith, ints, value, adds, c.loop-term.invariant.value);
       reach = omega (arith, ints, reach, adds, c.loop-term.invariant.reach);
-      watched = watched_step c.args.bits c.args.words.now c.args.terms.now i sum next _ _ _ below adds outside c.loop-term.invariant.watched;
+      watched = watched_step c.args.bits c.args.words.now c.args.terms.now i sum next _ _ _ below adds outside
+          c.loop-term.invariant.watched;
     }

@@ -8,5 +8,6 @@ invariant-loop-term l =
     record {
       value : l.sum +ℤ scaled_sum l.words (drop l.term-index l.terms) ≡ l.constant +ℤ scaled_sum l.words l.terms;
       reach : unsigned_abs l.sum + magnitudes l.words (drop l.term-index l.terms) < 2 ^ 63;
-      watched : (l.left || list_any (is_outside l.bits) (later_sums l.sum l.words (drop l.term-index l.terms))) ≡ list_any (is_outside l.bits) (l.constant ∷ later_sums l.constant l.words l.terms);
+      watched : (l.left || list_any (is_outside l.bits) (later_sums l.sum l.words (drop l.term-index l.terms)))
+          ≡ list_any (is_outside l.bits) (l.constant ∷ later_sums l.constant l.words l.terms);
     }

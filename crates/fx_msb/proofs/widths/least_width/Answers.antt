@@ -12,4 +12,5 @@ pub returns-clause-fits : goal.returns-clause-fits
 returns-clause-fits c =
     let fits : FitsSigned w64 c.args.x = search rules in
     let same : c.args.x ≡ pos c.magnitude.result = rw (to_z-of_z fits) at c.magnitude.ensures.value in
-    rw c.max.ensures (least_width_fits c.args.x c.magnitude.result _ same c.magnitude.ensures.small (least_width_is c.args.x c.magnitude.result same c.magnitude.ensures.small))
+    rw c.max.ensures (least_width_fits c.args.x c.magnitude.result _ same c.magnitude.ensures.small
+    (least_width_is c.args.x c.magnitude.result same c.magnitude.ensures.small))

@@ -9,11 +9,13 @@ use Rattle.fx_net.proofs.layout.input_places.Goals as goal
 pub loop-j-preserved : goal.loop-j-preserved
 loop-j-preserved c =
     let inside : c.loop-j.j < length c.loop-j.places = omega arith in
-    let lag : c.greatest_lag-next.result ≡ greatest_lag (Input c.loop-j.j) c.args.eqs.now.terms = c.greatest_lag-next.ensures.value in
+    let lag : c.greatest_lag-next.result ≡ greatest_lag (Input c.loop-j.j) c.args.eqs.now.terms =
+    c.greatest_lag-next.ensures.value in
     let next = sum_next (λ j. greatest_lag (Input j) c.args.eqs.now.terms) c.loop-j.j in
     record {
       next = omega (arith, lag, next);
       high = omega arith;
       count = length-set c.loop-j.places c.loop-j.j c.loop-j.next ∙ c.loop-j.invariant.count;
-      places = one_more_written c.loop-j.places (input_hold_place c.args.eqs.now) c.loop-j.j c.loop-j.next inside c.loop-j.invariant.next c.loop-j.invariant.places;
+      places = one_more_written c.loop-j.places (input_hold_place c.args.eqs.now) c.loop-j.j c.loop-j.next
+          inside c.loop-j.invariant.next c.loop-j.invariant.places;
     }

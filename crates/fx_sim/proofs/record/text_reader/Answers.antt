@@ -7,6 +7,8 @@ use Rattle.fx_sim.proofs.record.text_reader.Goals as goal
 
 pub returns-clause-few : goal.returns-clause-few
 returns-clause-few c =
-    let source : bytes_left c.from_reader.result ≡ strip_bom c.args.text.now = ap (λ (o : Option (List ℕ)). unwrap_or o []) c.from_reader.ensures.source in
-    let same : records_left c.from_reader.result ≡ records default_config (strip_bom c.args.text.now) = rw (c.from_reader.ensures.state, source) refl in
+    let source : bytes_left c.from_reader.result ≡ strip_bom c.args.text.now =
+    ap (λ (o : Option (List ℕ)). unwrap_or o []) c.from_reader.ensures.source in
+    let same : records_left c.from_reader.result ≡ records default_config (strip_bom c.args.text.now) =
+    rw (c.from_reader.ensures.state, source) refl in
     rw same (few_records c.args.text.now)

@@ -6,14 +6,18 @@ use Rattle.fx_sim.proofs.simulation.simulate.Goals as goal
 
 pub returns-in_err-read_moment : goal.returns-in_err-read_moment
 returns-in_err-read_moment c =
-    let p = err_from_is_err_and c.from_residual-in_err-read_moment.result c.from_residual-in_err-read_moment.ensures.1 in
+    let p = err_from_is_err_and c.from_residual-in_err-read_moment.result
+    c.from_residual-in_err-read_moment.ensures.1 in
     let found = c.in_ok-next_record.ensures.found c.if-branch.true in
     rw (p.1, p.2)
-    (fails c.args.program.now c.args.samples.now c.loop-reader.machine c.loop-reader.reader c.next_record.new.reader c.loop-reader.number c.loop-reader.text.items
-    (fields_of c.next_record.new.row) c.in_err-read_moment.field-0.0 c.loop-reader.invariant.between_records found c.in_err-read_moment.ensures.fault)
+    (fails c.args.program.now c.args.samples.now c.loop-reader.machine c.loop-reader.reader
+    c.next_record.new.reader c.loop-reader.number c.loop-reader.text.items
+    (fields_of c.next_record.new.row) c.in_err-read_moment.field-0.0 c.loop-reader.invariant.between_records
+    found c.in_err-read_moment.ensures.fault)
 
 pub put_moment-requires-clause-input : goal.put_moment-requires-clause-input
-put_moment-requires-clause-input c = rw (c.loop-reader.invariant.between_records.ran.program) c.in_ok-read_moment.ensures.moment
+put_moment-requires-clause-input c =
+    rw (c.loop-reader.invariant.between_records.ran.program) c.in_ok-read_moment.ensures.moment
 
 pub loop-reader-preserved : goal.loop-reader-preserved
 loop-reader-preserved c =
@@ -24,13 +28,20 @@ loop-reader-preserved c =
     record {
       input = c.in_ok-read_moment.ensures.moment.count;
       output = omega arith;
-      between_records = rw (c.in_ok-put_moment.ensures.line, c.in_ok-put_moment.ensures.output c.args.program.now list inv.between_records.ran)
-          (goes_on c.words_read_no_later_inputs.ensures c.args.program.now c.args.samples.now c.loop-reader.machine c.put_moment.new.machine c.loop-reader.reader c.next_record.new.reader c.loop-reader.number c.loop-reader.text.items
-          (fields_of c.next_record.new.row) c.read_moment.new.input inv.between_records stands found c.in_ok-read_moment.ensures.ok
+      between_records = rw (
+        c.in_ok-put_moment.ensures.line,
+        c.in_ok-put_moment.ensures.output c.args.program.now list inv.between_records.ran,
+      )
+          (goes_on c.words_read_no_later_inputs.ensures c.args.program.now c.args.samples.now
+          c.loop-reader.machine c.put_moment.new.machine c.loop-reader.reader c.next_record.new.reader
+          c.loop-reader.number c.loop-reader.text.items
+          (fields_of c.next_record.new.row) c.read_moment.new.input inv.between_records stands found
+          c.in_ok-read_moment.ensures.ok
           (c.in_ok-put_moment.ensures.stands c.args.program.now list inv.between_records.ran));
     }
 
 pub returns : goal.returns
 returns c =
-    done c.args.program.now c.args.samples.now c.loop-reader.machine c.loop-reader.reader c.loop-reader.number c.loop-reader.text.items c.loop-reader.invariant.between_records
+    done c.args.program.now c.args.samples.now c.loop-reader.machine c.loop-reader.reader c.loop-reader.number
+    c.loop-reader.text.items c.loop-reader.invariant.between_records
     (c.in_ok-next_record.ensures.none c.if-branch.false)

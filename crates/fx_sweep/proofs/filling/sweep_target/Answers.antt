@@ -8,7 +8,11 @@ use Rattle.fx_sweep.proofs.Kept.{range_stays}
 use Rattle.fx_sweep.proofs.filling.sweep_target.Goals as goal
 
 pub loop-init : goal.loop-init
-loop-init g c = record { swept = c.start.ensures.swept (net_of c.args.net.now); made = omega (arith, c.start.ensures.made) }
+loop-init g c = record {
+  swept = c.start.ensures.swept (net_of c.args.net.now);
+  made =
+      omega (arith, c.start.ensures.made);
+}
 
 pub moment-requires : goal.moment-requires
 moment-requires g c = omega (arith, c.loop.invariant.swept.counted, c.loop-test.true, c.requires.short)
@@ -16,8 +20,10 @@ moment-requires g c = omega (arith, c.loop.invariant.swept.counted, c.loop-test.
 pub returns-in_err-moment-clause-range : goal.returns-in_err-moment-clause-range
 returns-in_err-moment-clause-range g c =
     let same : range_of c.from_residual.result ≡ Some c.in_err-moment.field-0.0 = grind (arith, common_steps) in
-    same ∙ sym (range_stays (net_of c.args.net.now) (start_of c.args.target) c.loop.counter c.args.moments c.in_err-moment.field-0.0 c.loop-test.true
-    c.loop.invariant.swept.within (sym (c.in_err-moment.ensures.range c.args.target c.loop.counter c.loop.invariant.swept)))
+    same ∙ sym (range_stays (net_of c.args.net.now) (start_of c.args.target) c.loop.counter c.args.moments
+    c.in_err-moment.field-0.0 c.loop-test.true
+    c.loop.invariant.swept.within
+    (sym (c.in_err-moment.ensures.range c.args.target c.loop.counter c.loop.invariant.swept)))
 
 pub returns-in_err-moment-clause-made : goal.returns-in_err-moment-clause-made
 returns-in_err-moment-clause-made g c = omega (arith, c.loop.invariant.made, c.moment.ensures.made, c.loop-test.true)
@@ -31,7 +37,8 @@ loop-preserved g c = record {
 pub returns-clause-range : goal.returns-clause-range
 returns-clause-range g c =
     let all : c.loop.counter ≡ c.args.moments = omega (arith, c.loop-test.false, c.loop.auto.counter-end) in
-    sym (subst (λ n. first_range_in (net_of c.args.net.now) (start_of c.args.target) n ≡ None) all c.loop.invariant.swept.within)
+    sym (subst (λ n. first_range_in (net_of c.args.net.now) (start_of c.args.target) n ≡ None) all
+    c.loop.invariant.swept.within)
 
 pub returns-clause-swept : goal.returns-clause-swept
 returns-clause-swept g c =

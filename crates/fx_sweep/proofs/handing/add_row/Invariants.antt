@@ -9,7 +9,8 @@ use Rattle.fx_sweep.proofs.handing.add_row.Given as goal
 abbrev pub invariant-loop-link : goal.invariant-loop-link
 invariant-loop-link l = record {
   long : length l.at ≡ length l.initial.at;
-  left : (j : ℕ) → given l.row.lo (row_rest l.link-iterator) j (interval_in l.at j) ≡ given l.row.lo (row_links l.table l.i) j (interval_in l.initial.at j);
+  left : (j : ℕ) → given l.row.lo (row_rest l.link-iterator) j (interval_in l.at j)
+      ≡ given l.row.lo (row_links l.table l.i) j (interval_in l.initial.at j);
   ahead : IsAhead l.table.columns (row_rest l.link-iterator) (interval_in l.initial.at) (interval_in l.at);
   narrow : (b w : ℕ) → AreNarrow b w l.initial.at → AreNarrow (b + product_bound) (w + product_apart) l.at;
 }

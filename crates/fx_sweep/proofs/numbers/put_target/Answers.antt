@@ -15,7 +15,8 @@ pub returns-in-Row-clause-value : goal.returns-in-Row-clause-value
 returns-in-Row-clause-value c =
     let here = rw c.from.ensures at c.put.ensures.here in
     let others = rw c.from.ensures at c.put.ensures.others in
-    rw c.in-Row.is (row_started (interval_in c.args.at.now) (interval_in c.put.new.at) c.in-Row.row c.requires.zero (here ∙ c.power.ensures) others)
+    rw c.in-Row.is (row_started (interval_in c.args.at.now) (interval_in c.put.new.at) c.in-Row.row
+    c.requires.zero (here ∙ c.power.ensures) others)
 
 pub returns-in-Pair-clause-value : goal.returns-in-Pair-clause-value
 returns-in-Pair-clause-value c =
@@ -26,5 +27,7 @@ returns-in-Pair-clause-value c =
     let original = rw c.from-in-Pair-2.ensures at c.put-in-Pair-2.ensures.here in
     let others = rw c.from-in-Pair-2.ensures at c.put-in-Pair-2.ensures.others in
     let p : c.power-in-Pair-2.result ≡ point (power c.in-Pair.shift) = simp to_z-of_z at c.power-in-Pair-2.ensures in
-    rw c.in-Pair.is (pair_started (interval_in c.args.at.now) (interval_in c.put-in-Pair.new.at) (interval_in c.put-in-Pair-2.new.at) c.in-Pair.code c.in-Pair.original c.in-Pair.shift fits.2 c.requires.zero
+    rw c.in-Pair.is (pair_started (interval_in c.args.at.now) (interval_in c.put-in-Pair.new.at)
+    (interval_in c.put-in-Pair-2.new.at) c.in-Pair.code c.in-Pair.original c.in-Pair.shift fits.2
+    c.requires.zero
     (code ∙ c.power-in-Pair.ensures) code_others (original ∙ c.neg.ensures ∙ ap opposite p) others)

@@ -14,23 +14,32 @@ use Rattle.fx_sweep.proofs.numbers.settle_row.Goals as goal
 
 pub returns-clause-added : goal.returns-clause-added
 returns-clause-added c =
-    let read : c.index-weights-i.result ≡ interval_in c.args.weights.now c.args.i = get_or_read c.args.weights.now c.args.i c.index-weights-i.result c.requires.weights c.index-weights-i.is (point (pos 0)) in
+    let read : c.index-weights-i.result ≡ interval_in c.args.weights.now c.args.i =
+    get_or_read c.args.weights.now c.args.i c.index-weights-i.result c.requires.weights c.index-weights-i.is
+    (point (pos 0)) in
     let at = interval_in c.args.weights.now in
     let fits : FitsSigned w128 c.lo.result = search rules in
     let size : c.unsigned_abs.result ≡ unsigned_abs c.lo.result = simp to_z-of_z at c.unsigned_abs.ensures.value in
     record {
-      handed = c.add_row.ensures.value ∙ ap (λ (x : Interval). with_multiples x.lo (entry_at c.args.table.now c.args.i) at) read;
-      small = subst (λ (x : Interval). magnitude x ≤ greatest) read (omega (arith, c.in_ok-within.ensures.small, c.magnitude_of.ensures.value));
+      handed = c.add_row.ensures.value ∙ ap (λ (x : Interval).
+          with_multiples x.lo (entry_at c.args.table.now c.args.i) at) read;
+      small = subst (λ (x : Interval). magnitude x ≤ greatest) read
+          (omega (arith, c.in_ok-within.ensures.small, c.magnitude_of.ensures.value));
       width_here = c.widen.ensures.here ∙ ap (λ (x : Interval). whole_in c.args.widths.now c.args.i +ℤ width x) read;
       widths_else = c.widen.ensures.others;
-      gain_here = c.in_ok-raise.ensures.here ∙ ap (λ n. gain_in c.args.gains.now c.args.i + n) (size ∙ ap unsigned_abs (c.lo.ensures.value ∙ ap (λ (x : Interval). x.lo) read));
+      gain_here = c.in_ok-raise.ensures.here ∙ ap (λ n.
+          gain_in c.args.gains.now c.args.i + n) (size
+          ∙ ap unsigned_abs (c.lo.ensures.value ∙ ap (λ (x : Interval). x.lo) read));
       gains_else = c.raise.ensures.others;
     }
 
 pub returns-clause-width_grows : goal.returns-clause-width_grows
 returns-clause-width_grows c =
-    let read : c.index-weights-i.result ≡ interval_in c.args.weights.now c.args.i = get_or_read c.args.weights.now c.args.i c.index-weights-i.result c.requires.weights c.index-weights-i.is (point (pos 0)) in
-    let near : c.index-weights-i.result.hi ≤ℤ (c.index-weights-i.result.lo +ℤ pos greatest_width) = rw read c.requires.near in
+    let read : c.index-weights-i.result ≡ interval_in c.args.weights.now c.args.i =
+    get_or_read c.args.weights.now c.args.i c.index-weights-i.result c.requires.weights c.index-weights-i.is
+    (point (pos 0)) in
+    let near : c.index-weights-i.result.hi ≤ℤ (c.index-weights-i.result.lo +ℤ pos greatest_width) =
+    rw read c.requires.near in
     let ordered = c.lo.ensures.kept.ordered in
     let here = c.widen.ensures.here in
     (omega (arith, ints, here, ordered), omega (arith, ints, here, near))

@@ -21,21 +21,34 @@ returns-in_err-settle_rows-clause-range g c =
     let at = settle net g.row.N (interval_in c.args.weights.now) in
     let same : range_of c.from_residual.result ≡ Some c.in_err-settle_rows.field-0.0 = grind (arith, common_steps) in
     same
-    ∙ ap (λ (o : Option RangeAt). option_or o (option_or (first_range (input_value (to_input net at) (gain_in c.args.input_gains.now)) (joined PORTS input_places)) (first_range (rest_value (carry net at)) (joined g.row.N rest_places)))) c.in_err-settle_rows.ensures.range
+    ∙ ap (λ (o : Option RangeAt).
+    option_or o (option_or (first_range (input_value (to_input net at) (gain_in c.args.input_gains.now))
+    (joined PORTS input_places)) (first_range (rest_value (carry net at)) (joined g.row.N rest_places))))
+    c.in_err-settle_rows.ensures.range
 
 pub returns-clause-range : goal.returns-clause-range
 returns-clause-range g c =
     let net = net_of c.args.net.now in
     let at = settle net g.row.N (interval_in c.args.weights.now) in
     c.hand_back.ensures.range
-    ∙ ap (λ (t : ℕ → Interval). option_or (first_range (input_value (to_input net t) (gain_in c.args.input_gains.now)) (joined PORTS input_places)) (first_range (rest_value (carry net t)) (joined g.row.N rest_places))) c.in_ok-settle_rows.ensures.settled
-    ∙ ap (λ (o : Option RangeAt). option_or o (option_or (first_range (input_value (to_input net at) (gain_in c.args.input_gains.now)) (joined PORTS input_places)) (first_range (rest_value (carry net at)) (joined g.row.N rest_places)))) c.in_ok-settle_rows.ensures.range
+    ∙ ap (λ (t : ℕ → Interval).
+    option_or (first_range (input_value (to_input net t) (gain_in c.args.input_gains.now))
+    (joined PORTS input_places)) (first_range (rest_value (carry net t)) (joined g.row.N rest_places)))
+    c.in_ok-settle_rows.ensures.settled
+    ∙ ap (λ (o : Option RangeAt).
+    option_or o (option_or (first_range (input_value (to_input net at) (gain_in c.args.input_gains.now))
+    (joined PORTS input_places)) (first_range (rest_value (carry net at)) (joined g.row.N rest_places))))
+    c.in_ok-settle_rows.ensures.range
 
 pub returns-clause-carried : goal.returns-clause-carried
-returns-clause-carried g c = where_ok c.hand_back.result _ _ c.hand_back.ensures.carried (λ e. e ∙ ap (carry (net_of c.args.net.now)) c.in_ok-settle_rows.ensures.settled)
+returns-clause-carried g c =
+    where_ok c.hand_back.result _ _ c.hand_back.ensures.carried (λ e.
+    e ∙ ap (carry (net_of c.args.net.now)) c.in_ok-settle_rows.ensures.settled)
 
 pub returns-clause-inputs : goal.returns-clause-inputs
-returns-clause-inputs g c = where_ok c.hand_back.result _ _ c.hand_back.ensures.inputs (λ e. e ∙ ap (to_input (net_of c.args.net.now)) c.in_ok-settle_rows.ensures.settled)
+returns-clause-inputs g c =
+    where_ok c.hand_back.result _ _ c.hand_back.ensures.inputs (λ e.
+    e ∙ ap (to_input (net_of c.args.net.now)) c.in_ok-settle_rows.ensures.settled)
 
 pub returns-clause-widths : goal.returns-clause-widths
 returns-clause-widths g c =
@@ -49,5 +62,6 @@ returns-clause-row_gains g c =
 
 pub returns-clause-input_gains : goal.returns-clause-input_gains
 returns-clause-input_gains g c =
-    let raised : (ℕ → Interval) → ℕ → ℕ = λ t j. gain_in c.args.input_gains.now j + magnitude (to_input (net_of c.args.net.now) t j) in
+    let raised : (ℕ → Interval) → ℕ → ℕ = λ t j. gain_in c.args.input_gains.now j
+    + magnitude (to_input (net_of c.args.net.now) t j) in
     where_ok c.hand_back.result _ _ c.hand_back.ensures.gains (λ e. e ∙ ap raised c.in_ok-settle_rows.ensures.settled)

@@ -22,12 +22,17 @@ pub loop-i-preserved : goal.loop-i-preserved
 loop-i-preserved c =
     let product_fits : FitsSigned w128 c.product_at.result = search rules in
     let sum_fits : FitsSigned w128 c.sum-all.result = search rules in
-    let e : c.sum-all.result ≡ to_z w128 c.loop-i.all-bits +ℤ c.product_at.result = c.sum-all.ensures.value ∙ ap (λ x. to_z w128 c.loop-i.all-bits +ℤ x) (to_z-of_z w128 c.product_at.result product_fits) in
+    let e : c.sum-all.result ≡ to_z w128 c.loop-i.all-bits +ℤ c.product_at.result =
+    c.sum-all.ensures.value ∙ ap (λ x. to_z w128 c.loop-i.all-bits +ℤ x)
+    (to_z-of_z w128 c.product_at.result product_fits) in
     let s = to_z-of_z w128 c.sum-all.result sum_fits in
     record {
-      value = s ∙ one_more_total c.loop-i.i (λ i. whole_in c.args.numbers.now (c.args.at + i) *ℤ pos (bound_in c.args.bounds.now i)) _ _ _ e c.loop-i.invariant.value c.product_at.ensures.value;
+      value = s ∙ one_more_total c.loop-i.i (λ i.
+          whole_in c.args.numbers.now (c.args.at + i) *ℤ pos (bound_in c.args.bounds.now i)) _ _ _ e
+          c.loop-i.invariant.value c.product_at.ensures.value;
       fits = λ most h. subst (λ x. IsUpTo ((c.loop-i.i + 1) * (most * 2 ^ 31)) x) (sym s)
-          (one_more_fits c.loop-i.i (most * 2 ^ 31) (to_z w128 c.loop-i.all-bits) c.product_at.result c.sum-all.result e (c.loop-i.invariant.fits most h) (c.product_at.ensures.fits most h));
+          (one_more_fits c.loop-i.i (most * 2 ^ 31) (to_z w128 c.loop-i.all-bits) c.product_at.result
+          c.sum-all.result e (c.loop-i.invariant.fits most h) (c.product_at.ensures.fits most h));
     }
 
 pub returns-clause-fits : goal.returns-clause-fits

@@ -7,5 +7,6 @@ abbrev pub invariant-loop : goal.invariant-loop
 invariant-loop l = record {
   within : l.at ≤ length l.text;
   same_count : length l.widths.items ≡ l.counter;
-  so_far : repeated (l.count - l.counter) (input_more l.text) (l.widths.items, l.at) ≡ repeated l.count (input_more l.text) ([], l.start);
+  so_far : repeated (l.count - l.counter) (input_more l.text) (l.widths.items, l.at)
+      ≡ repeated l.count (input_more l.text) ([], l.start);
 }

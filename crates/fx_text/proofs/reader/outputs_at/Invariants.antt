@@ -6,5 +6,6 @@ use Rattle.fx_text.proofs.reader.outputs_at.Given as goal
 abbrev pub invariant-loop : goal.invariant-loop
 invariant-loop l = record {
   within : l.at ≤ length l.text;
-  so_far : repeated (l.count - l.counter) (output_more l.text) (l.program, l.at) ≡ repeated l.count (output_more l.text) (l.fn.program, l.start);
+  so_far : repeated (l.count - l.counter) (output_more l.text) (l.program, l.at)
+      ≡ repeated l.count (output_more l.text) (l.fn.program, l.start);
 }

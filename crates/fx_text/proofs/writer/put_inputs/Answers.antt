@@ -8,4 +8,5 @@ loop-j-preserved c =
     let ws = c.args.program.now.inputs in
     let below : c.loop-j.j < length ws = omega arith in
     let line = rw (c.in_ok-line.ensures, c.input_width.ensures.value) at c.in_ok-put.ensures in
-    pushed _ _ (input_lines (c.loop-j.j + 1) (drop (c.loop-j.j + 1) ws)) _ _ _ line (inputs_more ws c.loop-j.j below) c.loop-j.invariant
+    pushed _ _ (input_lines (c.loop-j.j + 1) (drop (c.loop-j.j + 1) ws)) _ _ _ line
+    (inputs_more ws c.loop-j.j below) c.loop-j.invariant

@@ -8,4 +8,6 @@ pub loop-term-preserved : goal.loop-term-preserved
 loop-term-preserved c =
     let ts = c.args.terms.now in
     let line = rw c.in_ok-line.ensures at c.in_ok-put.ensures in
-    pushed _ _ (term_lines (drop (c.loop-term.term-index + 1) ts)) _ _ _ line (terms_more ts (record { coef = pos 0; from = Now 0; left = 0 }) c.loop-term.term-index c.loop-term-test.true) c.loop-term.invariant
+    pushed _ _ (term_lines (drop (c.loop-term.term-index + 1) ts)) _ _ _ line
+    (terms_more ts (record { coef = pos 0; from = Now 0; left = 0 }) c.loop-term.term-index
+    c.loop-term-test.true) c.loop-term.invariant

@@ -16,6 +16,8 @@ returns t c =
     let rest = rw (c.split_at.ensures.back, c.split_at-2.ensures.back) at c.matrix_rows.ensures in
     rw (
       next_row c.args.count c.args.row n m x u some,
-      regrouped c.args.terms.now.items (over_sources c.args.row (λ j. Row j) 1 0 (take n x)) (over_sources c.args.row (λ j. In j) 0 0 (take m u)) (matrix_rows (c.args.count - 1) (c.args.row + 1) n m (drop n x) (drop m u)),
+      regrouped c.args.terms.now.items (over_sources c.args.row (λ j. Row j) 1 0 (take n x))
+          (over_sources c.args.row (λ j. In j) 0 0 (take m u))
+          (matrix_rows (c.args.count - 1) (c.args.row + 1) n m (drop n x) (drop m u)),
       ← inputs,
     ) rest

@@ -6,5 +6,6 @@ use Rattle.fx_textbook.proofs.terms.against_lags.Given as goal
 abbrev pub invariant-loop-coef : goal.invariant-loop-coef
 invariant-loop-coef l = record {
   lag : l.lag ≡ l.first + l.coef-index;
-  reads : l.terms.items ++ over_lags l.row l.from l.lag (map minus (drop l.coef-index l.coefficients)) ≡ l.fn.terms.items ++ over_lags l.row l.from l.first (map minus l.coefficients);
+  reads : l.terms.items ++ over_lags l.row l.from l.lag (map minus (drop l.coef-index l.coefficients))
+      ≡ l.fn.terms.items ++ over_lags l.row l.from l.first (map minus l.coefficients);
 }

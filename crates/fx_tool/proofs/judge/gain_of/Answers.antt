@@ -9,5 +9,6 @@ use Rattle.fx_tool.proofs.judge.gain_of.Goals as goal
 pub unreachable-requires : goal.unreachable-requires
 unreachable-requires c =
     let fits : FitsSigned w64 c.weight_of.result = search rules in
-    let same : to_z w64 (of_z w64 c.weight_of.result) ≡ weight c.args.term.now = rw (to_z-of_z w64 c.weight_of.result fits) c.weight_of.ensures in
+    let same : to_z w64 (of_z w64 c.weight_of.result) ≡ weight c.args.term.now =
+    rw (to_z-of_z w64 c.weight_of.result fits) c.weight_of.ensures in
     c.in-None.ensures (fraction_fits c.args.term.now c.args.shift _ same c.requires.shift c.requires.term)

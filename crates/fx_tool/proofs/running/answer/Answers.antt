@@ -5,8 +5,12 @@ use Rattle.fx_tool.proofs.running.answer.Goals as goal
 
 pub returns-in-Err-Failed : goal.returns-in-Err-Failed
 returns-in-Err-Failed g c =
-    leaves_read_fault (texts c.args.words.now) (g.S.Shelf.seen c.args.shelf.now) (g.S.Shelf.seen c.ending.new.shelf) (g.K.Sink.seen c.args.out.now) c.ending.result (c.in-Err-Failed.is ∙ ap Err c.in-Err-Failed.field-0-is) c.ending.ensures
+    leaves_read_fault (texts c.args.words.now) (g.S.Shelf.seen c.args.shelf.now)
+    (g.S.Shelf.seen c.ending.new.shelf) (g.K.Sink.seen c.args.out.now) c.ending.result (c.in-Err-Failed.is
+    ∙ ap Err c.in-Err-Failed.field-0-is) c.ending.ensures
 
 pub returns-in-Err-NoMemory : goal.returns-in-Err-NoMemory
 returns-in-Err-NoMemory g c =
-    leaves_no_memory (texts c.args.words.now) (g.S.Shelf.seen c.args.shelf.now) (g.S.Shelf.seen c.ending.new.shelf) (g.K.Sink.seen c.args.out.now) c.ending.result (c.in-Err-NoMemory.is ∙ ap Err c.in-Err-NoMemory.field-0-is) c.ending.ensures
+    leaves_no_memory (texts c.args.words.now) (g.S.Shelf.seen c.args.shelf.now)
+    (g.S.Shelf.seen c.ending.new.shelf) (g.K.Sink.seen c.args.out.now) c.ending.result (c.in-Err-NoMemory.is
+    ∙ ap Err c.in-Err-NoMemory.field-0-is) c.ending.ensures

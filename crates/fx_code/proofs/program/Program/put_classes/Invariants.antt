@@ -6,4 +6,7 @@ use Rattle.fx_code.proofs.program.Program.put_classes.Given as goal
 
 abbrev pub invariant-loop-i : goal.invariant-loop-i
 invariant-loop-i g l =
-    net_of l.net ≡ record (net_of l.initial.net) { class = put_classes (λ r. class_of (bare (row_at l.self r))) l.at l.i (net_of l.initial.net).class }
+    net_of l.net ≡ record (net_of l.initial.net) {
+      class =
+          put_classes (λ r. class_of (bare (row_at l.self r))) l.at l.i (net_of l.initial.net).class;
+    }

@@ -13,7 +13,9 @@ put_term-requires g c =
           c.shift-shift.ensures.high,
           (
             rw c.shift-shift.ensures.value (c.terms-term-items.ensures.fits k _ below),
-            read_fits c.args.self.now g.row.N c.args.at c.args.i k c.terms-term-items.result.now _ c.programs_fit.ensures c.requires.whole c.requires.room c.requires.row c.terms-term-items.ensures.value below,
+            read_fits c.args.self.now g.row.N c.args.at c.args.i k c.terms-term-items.result.now _
+                c.programs_fit.ensures c.requires.whole c.requires.room c.requires.row
+                c.terms-term-items.ensures.value below,
           ),
         ),
       ),

@@ -6,4 +6,5 @@ use Rattle.fx_code.proofs.program.Program.put_row.Given as goal
 
 abbrev pub invariant-loop-term : goal.invariant-loop-term
 invariant-loop-term g l =
-    put_terms l.at l.i (map (net_term l.shift) (drop l.term-index l.term-items)) (net_of l.net) ≡ put_terms l.at l.i (map (net_term l.shift) l.term-items) (net_of l.initial.net)
+    put_terms l.at l.i (map (net_term l.shift) (drop l.term-index l.term-items)) (net_of l.net)
+    ≡ put_terms l.at l.i (map (net_term l.shift) l.term-items) (net_of l.initial.net)

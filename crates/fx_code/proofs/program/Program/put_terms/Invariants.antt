@@ -7,4 +7,5 @@ use Rattle.fx_code.proofs.program.Program.put_terms.Given as goal
 
 abbrev pub invariant-loop-i : goal.invariant-loop-i
 invariant-loop-i g l =
-    put_each l.at l.i (map net_row (map bare (drop l.i l.self.rows))) (net_of l.net) ≡ put_each l.at 0 (map net_row (bare_rows l.self)) (net_of l.initial.net)
+    put_each l.at l.i (map net_row (map bare (drop l.i l.self.rows))) (net_of l.net)
+    ≡ put_each l.at 0 (map net_row (bare_rows l.self)) (net_of l.initial.net)

@@ -3,5 +3,6 @@ use Rattle.fx_code.proofs.program.Program.row.Goals as goal
 
 pub returns : goal.returns
 returns c =
-    let r = row_read c.self.inside c.args.self.now c.self.view_is c.self.invariant c.args.i c.requires c.index.result.now c.index.ensures in
+    let r = row_read c.self.inside c.args.self.now c.self.view_is c.self.invariant c.args.i c.requires
+    c.index.result.now c.index.ensures in
     record { value = r.value; fits = r.fits; few = r.few }

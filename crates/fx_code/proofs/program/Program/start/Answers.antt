@@ -4,7 +4,8 @@ use Rattle.fx_code.proofs.Fitting.{start_fits}
 use Rattle.fx_code.proofs.program.Program.start.Goals as goal
 
 pub returns-in-Some-clause-fault : goal.returns-in-Some-clause-fault
-returns-in-Some-clause-fault c = start-told c.args.accumulator c.args.input_widths.now _ (sym c.start_fault.ensures ∙ c.in-Some.is)
+returns-in-Some-clause-fault c =
+    start-told c.args.accumulator c.args.input_widths.now _ (sym c.start_fault.ensures ∙ c.in-Some.is)
 
 pub invariant_of-result : goal.invariant_of-result
 invariant_of-result c =

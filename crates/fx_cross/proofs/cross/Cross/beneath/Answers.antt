@@ -3,13 +3,23 @@ use Rattle.fx_cross.proofs.Walks.{down_found, down_low, down_some, down_onward}
 use Rattle.fx_cross.proofs.cross.Cross.beneath.Goals as goal
 
 pub returns-then-place-self-clause-first : goal.returns-then-place-self-clause-first
-returns-then-place-self-clause-first c l b from = (down_found _ _ _ _ _ _ _ _ c.self.invariant c.self.view_is _ _ _ c.index.ensures c.from-place.ensures l b from).none c.if-place-self.true
+returns-then-place-self-clause-first c l b from =
+    (down_found _ _ _ _ _ _ _ _ c.self.invariant c.self.view_is _ _ _ c.index.ensures c.from-place.ensures l b
+    from).none c.if-place-self.true
 
 pub index-cell-requires : goal.index-cell-requires
-index-cell-requires c = omega (arith, down_low _ _ _ _ _ _ _ _ c.self.invariant c.self.view_is _ _ _ c.index.ensures c.from-place.ensures c.if-place-self.false _ _ c.requires.2)
+index-cell-requires c = omega (
+  arith,
+  down_low _ _ _ _ _ _ _ _ c.self.invariant c.self.view_is _ _ _ c.index.ensures c.from-place.ensures
+      c.if-place-self.false _ _ c.requires.2,
+)
 
 pub returns-clause-first : goal.returns-clause-first
-returns-clause-first c = down_some _ _ _ _ _ _ _ _ c.self.invariant c.self.view_is _ _ _ _ c.index.ensures c.from-place.ensures c.if-place-self.false c.index-cell.ensures
+returns-clause-first c =
+    down_some _ _ _ _ _ _ _ _ c.self.invariant c.self.view_is _ _ _ _ c.index.ensures c.from-place.ensures
+    c.if-place-self.false c.index-cell.ensures
 
 pub returns-clause-onward : goal.returns-clause-onward
-returns-clause-onward c l b from = down_onward _ _ _ _ _ _ _ _ c.self.invariant c.self.view_is _ _ _ from.inside (returns-clause-first c l b from)
+returns-clause-onward c l b from =
+    down_onward _ _ _ _ _ _ _ _ c.self.invariant c.self.view_is _ _ _ from.inside
+    (returns-clause-first c l b from)

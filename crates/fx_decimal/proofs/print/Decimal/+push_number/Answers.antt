@@ -7,10 +7,13 @@ pub push-requires : goal.push-requires
 push-requires t c = let some = decimal_nonempty c.args.number (omega arith) in omega arith
 
 pub returns-then-number-lt10 : goal.returns-then-number-lt10
-returns-then-number-lt10 t c = c.push.ensures ∙ ap (λ (x : List ℕ). c.args.self.now ++ x) (sym (decimal_digit c.args.number c.if-number-lt10.true))
+returns-then-number-lt10 t c =
+    c.push.ensures ∙ ap (λ (x : List ℕ). c.args.self.now ++ x)
+    (sym (decimal_digit c.args.number c.if-number-lt10.true))
 
 pub push_number-requires : goal.push_number-requires
-push_number-requires t c = let more = decimal_more c.args.number (omega arith) (omega arith) in (omega arith, omega arith)
+push_number-requires t c = let more = decimal_more c.args.number (omega arith) (omega arith) in
+    (omega arith, omega arith)
 
 pub push-requires-2 : goal.push-requires-2
 push-requires-2 t c =

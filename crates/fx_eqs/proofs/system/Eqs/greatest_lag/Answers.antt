@@ -7,7 +7,8 @@ pub returns-clause-value : goal.returns-clause-value
 returns-clause-value c =
     let s = c.self.inside in
     let same = all_kept s.rows s.inputs s.terms.items c.self.invariant.fits.terms in
-    rw (← c.self.view_is) (c.greatest_lag.ensures.value ∙ ap (greatest_lag c.args.source) (rw (c.deref.ensures.value) same))
+    rw (← c.self.view_is) (c.greatest_lag.ensures.value
+    ∙ ap (greatest_lag c.args.source) (rw (c.deref.ensures.value) same))
 
 pub returns-clause-high : goal.returns-clause-high
 returns-clause-high c =

@@ -16,4 +16,6 @@ pub loop-j-preserved : goal.loop-j-preserved
 loop-j-preserved g c =
     let p_fits = c.ranges.p in
     let added = simp to_z-of_z at c.multiple.ensures.ends in
-    simp to_z-of_z (multiples_more c.args.i c.loop-j.j c.args.p _ _ _ _ c.get.result c.add-sum.result (simp to_z-of_z at c.loop-j.invariant) c.get.ensures (rw (added, c.get-in-loop-j.ensures) at c.add-sum.ensures) c.set.ensures)
+    simp to_z-of_z (multiples_more c.args.i c.loop-j.j c.args.p _ _ _ _ c.get.result c.add-sum.result
+    (simp to_z-of_z at c.loop-j.invariant) c.get.ensures
+    (rw (added, c.get-in-loop-j.ensures) at c.add-sum.ensures) c.set.ensures)

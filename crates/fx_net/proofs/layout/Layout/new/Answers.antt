@@ -7,7 +7,8 @@ use Rattle.fx_net.proofs.layout.Layout.new.Goals as goal
 pub invariant_of-result : goal.invariant_of-result
 invariant_of-result c =
     let fits = c.systems_fit.ensures in
-    let few : length (expanded c.args.eqs.now) ≤ NET_ROWS = let h = fits.net_high in omega (arith, length-expanded c.args.eqs.now) in
+    let few : length (expanded c.args.eqs.now) ≤ NET_ROWS = let h =
+    fits.net_high in omega (arith, length-expanded c.args.eqs.now) in
     record {
       places = record {
         inputs = c.input_places-first.ensures.holds;

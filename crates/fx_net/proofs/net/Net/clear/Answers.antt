@@ -4,4 +4,9 @@ use Rattle.fx_net.proofs.net.Net.clear.Goals as goal
 
 pub returns : goal.returns
 returns g c =
-    rw (c.clear.ensures.entries, c.clear-2.ensures.entries, c.clear-3.ensures.entries, zero_numbers _ c.fill.new.self.items (c.fill.ensures.items (λ y e. e))) refl
+    rw (
+      c.clear.ensures.entries,
+      c.clear-2.ensures.entries,
+      c.clear-3.ensures.entries,
+      zero_numbers _ c.fill.new.self.items (c.fill.ensures.items (λ y e. e)),
+    ) refl

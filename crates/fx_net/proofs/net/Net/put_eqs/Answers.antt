@@ -9,4 +9,5 @@ returns g c =
     let one = rw c.new-layout.ensures at c.put_input_holds.ensures in
     let two = rw c.new-layout.ensures at c.put_equations.ensures in
     let three = rw c.new-layout.ensures at c.put_row_holds.ensures in
-    rw (three, two, one) (three_parts c.args.at c.args.eqs.now (net_of c.args.self.now) ∙ filled c.args.at (expanded c.args.eqs.now) (net_of c.args.self.now) c.requires.empty)
+    rw (three, two, one) (three_parts c.args.at c.args.eqs.now (net_of c.args.self.now)
+    ∙ filled c.args.at (expanded c.args.eqs.now) (net_of c.args.self.now) c.requires.empty)

@@ -11,7 +11,8 @@ read-from-requires g c =
     let it = rw c.terms-terms.ensures.value at c.term-item.is in
     let inside = rw c.terms-terms.ensures.value at c.loop-term-test.true in
     let fits = rw c.terms-terms.ensures.value at c.terms-terms.ensures.fits in
-    item_read s c.loop-term.term-index c.term-item.result inside it (item_fits s c.loop-term.term-index c.term-item.result fits inside it).source
+    item_read s c.loop-term.term-index c.term-item.result inside it
+    (item_fits s c.loop-term.term-index c.term-item.result fits inside it).source
 
 pub overflow_add-layout : goal.overflow_add-layout
 overflow_add-layout g c =
@@ -36,7 +37,8 @@ put_term-requires g c =
       (
         omega arith,
         rw (c.read-from.ensures, place)
-            (read_fits g.row.N c.args.at s c.args.i c.term-item.result.from c.term-item.result.lag c.requires.inside c.args.layout.now.places.inputs_high
+            (read_fits g.row.N c.args.at s c.args.i c.term-item.result.from c.term-item.result.lag
+            c.requires.inside c.args.layout.now.places.inputs_high
             (item_read s c.loop-term.term-index c.term-item.result inside it fit.source)
             (subst (λ r. IsThereByThen r c.term-item.result.from c.term-item.result.lag) row fit.causal)),
       ),

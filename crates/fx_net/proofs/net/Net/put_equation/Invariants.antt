@@ -7,5 +7,6 @@ use Rattle.fx_net.proofs.net.Net.put_equation.Given as goal
 
 abbrev pub invariant-loop-term : goal.invariant-loop-term
 invariant-loop-term g l =
-    put_terms l.at (row_place l.layout.eqs.now l.i) (net_terms l.layout.eqs.now l.i (drop l.term-index l.terms)) (net_of l.self)
+    put_terms l.at (row_place l.layout.eqs.now l.i)
+    (net_terms l.layout.eqs.now l.i (drop l.term-index l.terms)) (net_of l.self)
     ≡ put_terms l.at (row_place l.layout.eqs.now l.i) (net_terms l.layout.eqs.now l.i l.terms) (net_of l.initial.self)

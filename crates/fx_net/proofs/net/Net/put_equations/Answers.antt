@@ -9,4 +9,6 @@ pub loop-i-preserved : goal.loop-i-preserved
 loop-i-preserved g c =
     let s = c.args.layout.now.eqs.now in
     rw c.put_equation.ensures
-    (part_next c.args.at (row_place s 0) (row_place s c.loop-i.i) c.loop-i.i (λ i. equation_row s i ∷ []) (net_of c.loop-i.self) (net_of c.args.self.now) (omega (arith, length-equations s c.loop-i.i)) c.loop-i.invariant)
+    (part_next c.args.at (row_place s 0) (row_place s c.loop-i.i) c.loop-i.i (λ i.
+    equation_row s i ∷ []) (net_of c.loop-i.self) (net_of c.args.self.now)
+    (omega (arith, length-equations s c.loop-i.i)) c.loop-i.invariant)

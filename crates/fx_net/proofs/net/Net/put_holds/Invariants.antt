@@ -8,5 +8,6 @@ use Rattle.fx_net.proofs.net.Net.put_holds.Given as goal
 abbrev pub invariant-loop-row : goal.invariant-loop-row
 invariant-loop-row g l = record {
   read : ReadFits g.row.N l.at l.row (read_of l.from);
-  put : put_each l.at l.row (hold_rows (read_of l.from) (l.place + l.count - l.row) l.row) (net_of l.self) ≡ put_each l.at l.place (hold_rows (read_of l.initial.from) l.count l.place) (net_of l.initial.self);
+  put : put_each l.at l.row (hold_rows (read_of l.from) (l.place + l.count - l.row) l.row) (net_of l.self)
+      ≡ put_each l.at l.place (hold_rows (read_of l.initial.from) l.count l.place) (net_of l.initial.self);
 }

@@ -40,4 +40,7 @@ loop-j-preserved g c =
     let from : c.args.layout.now.first + c.loop-j.j ≡ row_place s c.loop-j.j = omega arith in
     let lag : c.greatest_lag.result ≡ greatest_lag (Row c.loop-j.j) s.terms = c.greatest_lag.ensures.value in
     rw (c.put_holds.ensures, place, from, c.saturating_sub-count.ensures, lag)
-    (part_next c.args.at (row_place s s.rows) (row_hold_place s c.loop-j.j) c.loop-j.j (λ j. hold_rows (Old (row_place s j)) (greatest_lag (Row j) s.terms - 1) (row_hold_place s j)) (net_of c.loop-j.self) (net_of c.args.self.now) (omega (arith, length-row_holds s c.loop-j.j)) c.loop-j.invariant)
+    (part_next c.args.at (row_place s s.rows) (row_hold_place s c.loop-j.j) c.loop-j.j (λ j.
+    hold_rows (Old (row_place s j)) (greatest_lag (Row j) s.terms - 1) (row_hold_place s j))
+    (net_of c.loop-j.self) (net_of c.args.self.now) (omega (arith, length-row_holds s c.loop-j.j))
+    c.loop-j.invariant)

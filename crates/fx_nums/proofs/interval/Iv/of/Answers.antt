@@ -11,7 +11,10 @@ invariant_of-result c =
     let lo_fits : FitsSigned w128 c.floor_of.result = search rules in
     let hi_fits : FitsSigned w128 c.ceil_of.result = search rules in
     let scaled_fits : FitsSigned w128 c.at_scale-scaled.result = search rules in
-    let lo_is : c.floor_of.result ≡ floor_div c.at_scale-scaled.result c.value-den.result = simp to_z-of_z at c.floor_of.ensures.value in
-    let hi_is : c.ceil_of.result ≡ ceil_div c.at_scale-scaled.result c.value-den.result = simp to_z-of_z at c.ceil_of.ensures.value in
-    let ordered : c.floor_of.result ≤ℤ c.ceil_of.result = rw (lo_is, hi_is) (floor_le-ceil _ _ c.value-den.ensures.positive) in
+    let lo_is : c.floor_of.result ≡ floor_div c.at_scale-scaled.result c.value-den.result =
+    simp to_z-of_z at c.floor_of.ensures.value in
+    let hi_is : c.ceil_of.result ≡ ceil_div c.at_scale-scaled.result c.value-den.result =
+    simp to_z-of_z at c.ceil_of.ensures.value in
+    let ordered : c.floor_of.result ≤ℤ c.ceil_of.result =
+    rw (lo_is, hi_is) (floor_le-ceil _ _ c.value-den.ensures.positive) in
     simp to_z-of_z (record { ordered = ordered; fits = record { lo_fits = omega arith; hi_fits = omega arith } })

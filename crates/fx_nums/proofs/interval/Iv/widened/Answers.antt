@@ -13,8 +13,18 @@ invariant_of-result c =
     let to_fits : FitsSigned w128 c.self.inside.hi = search rules in
     let lo_is = simp to_z-of_z at c.end_down-lo.ensures.value in
     let hi_is = simp to_z-of_z at c.end_up-hi.ensures.value in
-    let ordered : c.end_down-lo.result ≤ℤ c.end_up-hi.result = rw (lo_is, hi_is) (widened_ordered c.self.inside.lo c.self.inside.hi c.self.invariant.ordered) in
-    simp to_z-of_z (record { ordered = ordered; fits = record { lo_fits = omega (arith, c.end_down-lo.ensures.bound); hi_fits = omega (arith, c.end_up-hi.ensures.bound) } })
+    let ordered : c.end_down-lo.result ≤ℤ c.end_up-hi.result =
+    rw (lo_is, hi_is) (widened_ordered c.self.inside.lo c.self.inside.hi c.self.invariant.ordered) in
+    simp to_z-of_z (record {
+      ordered = ordered;
+      fits =
+          record {
+            lo_fits = omega (arith, c.end_down-lo.ensures.bound);
+            hi_fits =
+                omega (arith, c.end_up-hi.ensures.bound);
+          };
+    })
 
 pub returns-clause-ordered : goal.returns-clause-ordered
-returns-clause-ordered c = rw (← c.self.view_is) (widened_ordered c.self.inside.lo c.self.inside.hi c.self.invariant.ordered)
+returns-clause-ordered c =
+    rw (← c.self.view_is) (widened_ordered c.self.inside.lo c.self.inside.hi c.self.invariant.ordered)

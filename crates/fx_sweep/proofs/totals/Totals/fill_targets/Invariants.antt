@@ -9,6 +9,7 @@ invariant-loop-t g l = record {
   size : l.self.size ≡ g.row.N;
   filled : l.self.filled ≡ l.initial.self.filled;
   none : first_target_range (net_of l.net) l.targets l.lengths l.t ≡ None;
-  held : (s : ℕ) → s < l.t → HoldsTarget l.self s (net_of l.net) (start_of (target_in l.targets s)) (length_in l.lengths s);
+  held : (s : ℕ) → s < l.t →
+      HoldsTarget l.self s (net_of l.net) (start_of (target_in l.targets s)) (length_in l.lengths s);
   made : l.sweep.made ≤ l.initial.sweep.made + moments_of l.lengths l.t;
 }

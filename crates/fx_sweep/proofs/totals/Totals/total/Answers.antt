@@ -15,12 +15,15 @@ returns-clause-kept g c =
     let e : FitsSigned w128 c.rest_part.result = search rules in
     let s : FitsSigned w128 c.sum_of_parts.result = search rules in
     to_z-of_z w128 c.sum_of_parts.result s ∙ c.sum_of_parts.ensures.value
-    ∙ four_parts (to_z-of_z w128 c.input_part.result a ∙ c.input_part.ensures.value) (to_z-of_z w128 c.rounding.result b ∙ c.rounding.ensures.value)
-    (to_z-of_z w128 c.width_part.result d ∙ c.width_part.ensures.value) (to_z-of_z w128 c.rest_part.result e ∙ c.rest_part.ensures.value)
+    ∙ four_parts (to_z-of_z w128 c.input_part.result a ∙ c.input_part.ensures.value)
+    (to_z-of_z w128 c.rounding.result b ∙ c.rounding.ensures.value)
+    (to_z-of_z w128 c.width_part.result d ∙ c.width_part.ensures.value) (to_z-of_z w128 c.rest_part.result e
+    ∙ c.rest_part.ensures.value)
 
 pub returns-clause-total : goal.returns-clause-total
 returns-clause-total g c net targets lengths filled =
     let inside : c.args.t < length targets = omega (arith, c.requires.target, filled.count) in
     returns-clause-kept g c
-    ∙ held_total c.args.self.now c.args.t net (start_of (target_in targets c.args.t)) (length_in lengths c.args.t) (bound_in c.args.bounds.now) (bound_in c.args.x.now) filled.size
+    ∙ held_total c.args.self.now c.args.t net (start_of (target_in targets c.args.t))
+    (length_in lengths c.args.t) (bound_in c.args.bounds.now) (bound_in c.args.x.now) filled.size
     (filled.numbers c.args.t inside)
