@@ -9,3 +9,4 @@ mod FirstFailure
 mod Examples
 mod Raising
 mod Raised
+mod Ended

@@ -1,12 +1,10 @@
 -- Steps of raises, by what totals keep.
-use Rattle.std.proofs.Common.{◌≡◌, ◌⊎◌, ℕ, zero, suc, ◌+◌, ◌-◌, ◌*◌, ◌^◌, ◌<◌, ◌≤◌, arith, refl, ap, sym, ◌∙◌}
+use Rattle.std.proofs.Common.{◌≡◌, ◌⊎◌, ℕ, zero, suc, ◌+◌, ◌-◌, ◌^◌, ◌<◌, ◌≤◌, arith, refl, ap, sym, ◌∙◌}
 use Rattle.std.proofs.Common.{subst, inl, inr, cond, Bool, true, false, not, eqb, ltb, List, length}
-use Rattle.std.proofs.Common.{slice_index_or}
-use Rattle.std.proofs.Math.IntN.{ℤ, pos, negsuc, ◌+ℤ◌, ◌*ℤ◌}
-use Rattle.std.specs.Int.Signed.{◌≤ℤ◌, ◌<ℤ◌}
+use Rattle.std.proofs.Math.IntN.{ℤ, pos, negsuc, ◌*ℤ◌}
+use Rattle.std.specs.Int.Signed.{◌≤ℤ◌}
 use Rattle.std.specs.Prelude.{unsigned_abs, Option, Some, None, ◌↔◌}
-use Rattle.std.specs.Option.{option_or}
-use Rattle.std.proofs.lemmas.Bool.{cases_eq, cases_lt, cond-true, cond-false, lt-ltb, le-ltb, ltb-true, eqb-true}
+use Rattle.std.proofs.lemmas.Bool.{cases_eq, cases_lt, cond-false, lt-ltb, le-ltb}
 use Rattle.std.proofs.lemmas.Int.{ints}
 use mathlib.Core.Path.{fun_ext}
 use Rattle.std.proofs.lemmas.List.{get_or_past}
@@ -22,12 +20,12 @@ use Rattle.fx_sweep.specs.Totals.{target_total}
 use Rattle.fx_sweep.specs.declared.target.Target.{Target}
 use Rattle.fx_sweep.specs.declared.target.Target.TheVariants.{Row}
 use Rattle.fx_sweep.proofs.Kept.{held_total}
-use Rattle.fx_block.specs.Raising.{raise, raised_bound, first_row, Raises, ended, ended_by, raises_by, least_by_raises}
-use Rattle.fx_block.specs.Raising.Raises.{Rest, Over, Slow}
+use Rattle.fx_block.specs.Raising.{raise, first_row, Raises, ended, raises_by, least_by_raises}
+use Rattle.fx_block.specs.Raising.Raises.{Slow}
 use Rattle.fx_block.specs.Told.{Tells, is_slow, kept_raise}
 use Rattle.fx_block.specs.declared.least.Least.{Least}
-use Rattle.fx_block.specs.declared.least.Least.TheVariants.{Rest as ToldRest, Over as ToldOver, Slow as ToldSlow}
-use Rattle.fx_block.proofs.Raising.{first_passes, none_passes}
+use Rattle.fx_block.specs.declared.least.Least.TheVariants.{Slow as ToldSlow}
+use Rattle.fx_block.proofs.Raising.{none_passes}
 
 -- ---- the first row that passes a test
 

@@ -19,6 +19,11 @@ is_slow ToldRest = false
 is_slow (ToldOver row value cap) = false
 is_slow (ToldSlow row before after) = true
 
+abbrev pub is_over : Least → Bool
+is_over ToldRest = false
+is_over (ToldOver row value cap) = true
+is_over (ToldSlow row before after) = false
+
 -- one raise of the bounds of the first n rows, by the totals that are kept
 abbrev pub kept_raise : Kept → ℕ → (ℕ → ℕ) → (ℕ → ℕ) → ℕ → ℕ
 kept_raise k n bounds rows j =

@@ -29,11 +29,12 @@ ghost use Rattle.fx_sweep.specs.Filled.{Filled, length_in};
 ghost use Rattle.fx_sweep.specs.Kept.{AreBounds, AreUpTo, IsUpTo, bound_in, greatest_bound};
 ghost use Rattle.fx_sweep.specs.Target.{one};
 ghost use Rattle.fx_sweep.specs.declared.target.Target.{Target as AnyTarget};
+ghost use Rattle.fx_block.specs.Least.{AllServe, AreLeastBounds};
 ghost use Rattle.fx_block.specs.Raising.{OverHasNone, RestIsLeast, ended_by, first_row, least_by_raises, raises_by};
 ghost use Rattle.fx_block.specs.Raising.Raises.{Slow as SlowOf};
-ghost use Rattle.fx_block.specs.declared.least.Least.TheVariants.{Over as ToldOver, Slow as ToldSlow};
+ghost use Rattle.fx_block.specs.declared.least.Least.TheVariants.{Over as ToldOver, Rest as ToldRest, Slow as ToldSlow};
 ghost use Rattle.fx_sweep.specs.Swept.{whole_in};
-ghost use Rattle.fx_block.specs.Told.{Tells, is_slow, kept_raise};
+ghost use Rattle.fx_block.specs.Told.{Tells, is_over, is_slow, kept_raise};
 
 use fx_eqs::PORTS;
 use fx_nums::SCALE_BITS;
@@ -366,11 +367,8 @@ fn filled_rows<const N: usize>(t: &Totals<N>) -> usize
     t.rows().min(N)
 }
 
-/// Raises the bounds `x` of the rows from 0, all at once, each to its total over 2^64, rounded up, until a raise
-/// changes nothing, a raised bound passes its cap, or `MOST_RAISES` raises have each changed something. The first
-/// `t.rows()` filled targets are the rows. At rest `x` has the least bounds that serve, with 0 past the rows. Bounds of
-/// words and caps are 0 to 2147483647; `caps`, `x` and `scratch` have N entries.
-pub fn least_bounds<const N: usize>(
+// Raises the bounds `x` of the rows from 0 to the end of raises.
+fn raise_until_rest<const N: usize>(
     t: &Totals<N>,
     bounds: &[i64; PORTS],
     caps: &[i64],
@@ -401,4 +399,41 @@ pub fn least_bounds<const N: usize>(
         x.copy_from_slice(scratch);
     }
     raise_once(t, rows, bounds, caps, x, scratch)
+}
+
+/// Raises the bounds `x` of the rows from 0, all at once, each to its total over 2^64, rounded up, until a raise
+/// changes nothing, a raised bound passes its cap, or `MOST_RAISES` raises have each changed something. The first
+/// `t.rows()` filled targets are the rows. At rest `x` has the least bounds that serve, with 0 past the rows. Bounds of
+/// words and caps are 0 to 2147483647; `caps`, `x` and `scratch` have N entries.
+pub fn least_bounds<const N: usize>(
+    t: &Totals<N>,
+    bounds: &[i64; PORTS],
+    caps: &[i64],
+    x: &mut [i64],
+    scratch: &mut [i64],
+) -> Least
+    requires bounds { AreBounds bounds.now }
+    requires caps { AreBounds caps.now }
+    requires cap_count { length caps.now ≡ N }
+    requires count { length x.old ≡ N }
+    requires room { length scratch.old ≡ N }
+    ensures count { length x.new ≡ length x.old }
+    ensures room { length scratch.new ≡ length scratch.old }
+    ensures fits { AreBounds x.new }
+    ensures past { (j : ℕ) → t.now.leading ≤ j → bound_in x.new j ≡ 0 }
+    ensures end { (net : AnyNet) (targets : List AnyTarget) (lengths : List ℕ) →
+        Filled t.now net targets lengths → t.now.leading ≤ N →
+        Tells (least_by_raises net t.now.leading (length_in lengths) (bound_in bounds.now) (bound_in caps.now))
+        result (bound_in x.new) }
+    ensures least { (net : AnyNet) (targets : List AnyTarget) (lengths : List ℕ) →
+        Filled t.now net targets lengths → t.now.leading ≤ N → result ≡ ToldRest →
+        AreLeastBounds net t.now.leading (length_in lengths) (bound_in bounds.now) (bound_in x.new) }
+    ensures none { (net : AnyNet) (targets : List AnyTarget) (lengths : List ℕ) →
+        Filled t.now net targets lengths → t.now.leading ≤ N → is_over result ≡ true → (others : ℕ → ℕ) →
+        AllServe net t.now.leading (length_in lengths) (bound_in bounds.now) others →
+        ((j : ℕ) → j < t.now.leading → others j ≤ bound_in caps.now j) → ⊥ }
+{
+    totals_fit(t);
+    raises_find_the_least();
+    raise_until_rest(t, bounds, caps, x, scratch)
 }

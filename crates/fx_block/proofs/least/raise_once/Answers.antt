@@ -1,4 +1,4 @@
-use Rattle.std.proofs.Common.{arith, ap, ◌∙◌, subst, ◌^◌}
+use Rattle.std.proofs.Common.{ap, ◌∙◌, subst, ◌^◌}
 use Rattle.fx_sweep.specs.Kept.{bound_in}
 use Rattle.fx_block.specs.Raising.{ended_by}
 use Rattle.fx_block.specs.Raising.Raises.{Slow}
