@@ -1,3 +1,8 @@
 mod Adding
+mod CountingTerms
 mod Faults
+mod FittingDesigns
+mod FittingRows
+mod Programs
 mod Rounding
+mod RowByRow

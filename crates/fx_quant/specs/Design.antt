@@ -3,10 +3,11 @@ use Rattle.std.specs.Prelude.{◌≡◌, ℕ, ◌+◌, ◌-◌, ◌<◌, ◌≤�
 use Rattle.fx_math.specs.Sums.{joined}
 use Rattle.fx_math.specs.Words.{WidthFits, is_accumulator}
 use Rattle.fx_eqs.specs.declared.limits.TheConstants.{PORTS}
-use Rattle.fx_code.specs.Code.{BareRow, Row, Code}
+use Rattle.fx_code.specs.Code.{BareRow, Row, Code, OldIsThere}
 use Rattle.fx_code.specs.Fits.{TermFits, ReadsFit}
 use Rattle.fx_code.specs.NetRows.{bare_at}
 use Rattle.fx_code.specs.declared.limits.TheConstants.{CODE_ROWS, CODE_TERMS, LONGEST_SHIFT}
+use Rattle.fx_code.specs.declared.term.CodeTerm.{CodeTerm}
 
 -- the bits of the accumulators, how many inputs may be read, and the rows
 pub record Quantised : Type 0 where
@@ -20,7 +21,7 @@ pub record Quantised : Type 0 where
 abbrev pub sized : ℕ → BareRow → Row
 sized width row = record { width = width; shift = row.shift; terms = row.terms }
 
--- each row with its width
+-- the first n rows with their widths
 abbrev pub sized_rows : List ℕ → List BareRow → ℕ → List Row
 sized_rows widths rows n = joined n (λ i. sized (slice_index widths i) (bare_at rows i) ∷ [])
 
@@ -37,8 +38,9 @@ as_program d accumulator inputs widths outputs = record {
   outputs = last_places (length d.rows) outputs outputs;
 }
 
--- widths and outputs are within the limits: a width for each input that may be read and for each row
-pub record WidthsFit (d : Quantised) (accumulator : ℕ) (inputs widths : List ℕ) (outputs : ℕ) : Type 0 where
+-- a width for each input that may be read and for each row, all within the limits; accumulators that are listed, no
+-- shorter than those of the design
+pub record WidthsFit (d : Quantised) (accumulator : ℕ) (inputs widths : List ℕ) : Type 0 where
   pub accumulator_listed : IsTrue (is_accumulator accumulator)
   pub accumulator_kept : d.accumulator ≤ accumulator
   pub inputs_count : length inputs ≡ d.inputs
@@ -46,10 +48,13 @@ pub record WidthsFit (d : Quantised) (accumulator : ℕ) (inputs widths : List �
   pub widths_count : length widths ≡ length d.rows
   pub row_widths : All WidthFits widths
   pub widths_kept : All (λ width. width ≤ accumulator) widths
-  pub outputs_few : outputs ≤ PORTS
-  pub outputs_there : outputs ≤ length d.rows
 
--- ---- what each design keeps
+-- so many rows may be put out
+pub record OutputsFit (d : Quantised) (outputs : ℕ) : Type 0 where
+  pub few : outputs ≤ PORTS
+  pub there : outputs ≤ length d.rows
+
+-- ---- a design that fits a program
 
 -- a row over accumulators of so many bits
 pub record BareFits (accumulator : ℕ) (row : BareRow) : Type 0 where
@@ -61,10 +66,13 @@ pub record BareFits (accumulator : ℕ) (row : BareRow) : Type 0 where
 abbrev pub term_count : List BareRow → ℕ
 term_count rows = sum_by (λ (row : BareRow). length row.terms) rows
 
+-- rows that a program takes, whatever their widths; all that they read is there
 pub record DesignFits (d : Quantised) : Type 0 where
   pub inputs_low : 1 ≤ d.inputs
   pub inputs_high : d.inputs ≤ PORTS
   pub rows_high : length d.rows ≤ CODE_ROWS
   pub rows : (i : ℕ) → i < length d.rows → BareFits d.accumulator (bare_at d.rows i)
   pub reads : (i : ℕ) → i < length d.rows → ReadsFit i d.inputs (sized 0 (bare_at d.rows i))
+  pub there : (i : ℕ) → i < length d.rows →
+      All (λ (t : CodeTerm). OldIsThere (length d.rows) t.from) (bare_at d.rows i).terms
   pub few : term_count d.rows ≤ CODE_TERMS

@@ -34,6 +34,12 @@ quantised f formats guards fraction =
     net_rows formats.accumulator (grid formats guards f.sizes.y fraction) (form_net f) (rows f.sizes) f.sizes.u
     >>= λ rows. Ok (record { accumulator = formats.accumulator; inputs = f.sizes.u; rows = rows })
 
+-- a design for these accumulators that reads the form's inputs and has its rows
+pub record HasSizes (f : Implicit) (formats : Formats) (d : Quantised) : Type 0 where
+  pub accumulator : d.accumulator ≡ formats.accumulator
+  pub inputs : d.inputs ≡ f.sizes.u
+  pub rows : length d.rows ≡ rows f.sizes
+
 -- the same guard for each
 abbrev pub equal_guards : Implicit → ℕ → List ℕ
 equal_guards f guard = replicate (f.sizes.t + f.sizes.x) guard

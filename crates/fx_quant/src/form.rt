@@ -8,6 +8,7 @@ ghost use Rattle.fx_quant.specs.Positions.{grid, guarded};
 ghost use Rattle.fx_quant.specs.Quantised.{
   FormatsFit,
   FractionFits,
+  HasSizes,
   IsGuard,
   LowFits,
   equal_guards,
@@ -132,7 +133,7 @@ fn design_rows(
 /// point.
 ///
 /// Its error is the first fault, row by row, and `NoMemory` only where there is none.
-#[tactic(auto, using(crate::proofs::Faults::quantised_is, crate::proofs::Faults::quantised_fails))]
+#[tactic(auto, using(crate::proofs::Faults::quantised_is, crate::proofs::Faults::quantised_fails, crate::proofs::RowByRow::rows_count))]
 pub fn quantise_rows(
     alloc: Global,
     sif: &Sif,
@@ -144,7 +145,8 @@ pub fn quantise_rows(
     requires count { length guards.now ≡ sif.now.sizes.t + sif.now.sizes.x }
     requires guards { All IsGuard guards.now }
     requires fraction { FractionFits fraction }
-    ensures { Gives is_memory (λ d. d) result (quantised sif.now formats guards.now fraction) }
+    ensures value { Gives is_memory (λ d. d) result (quantised sif.now formats guards.now fraction) }
+    ensures sizes { IfOk result (HasSizes sif.now formats) }
 {
     let sizes = sif.sizes();
     let mut net: Net<FORM_ROWS> = Net::new(alloc)?;
@@ -180,7 +182,8 @@ pub fn quantise(
     requires formats { FormatsFit sif.now.sizes.y formats }
     requires guard { IsGuard guard }
     requires fraction { FractionFits fraction }
-    ensures { Gives is_memory (λ d. d) result (quantised sif.now formats (equal_guards sif.now guard) fraction) }
+    ensures value { Gives is_memory (λ d. d) result (quantised sif.now formats (equal_guards sif.now guard) fraction) }
+    ensures sizes { IfOk result (HasSizes sif.now formats) }
 {
     let sizes = sif.sizes();
     let count = usize::from(sizes.t) + usize::from(sizes.x);

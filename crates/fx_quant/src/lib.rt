@@ -7,6 +7,7 @@ mod fault;
 mod form;
 mod formats;
 mod laws;
+mod program;
 mod row;
 mod scaled;
 #[cfg(test)]
@@ -19,4 +20,4 @@ pub use formats::{
     Formats, GREATEST_FRACTION, GREATEST_LOW, LARGEST_GUARD, LEAST_FRACTION, LEAST_LOW, LOWS_APART,
     ROUNDED_BITS, quantising_limits_are_these,
 };
-pub use laws::coefficients_are_rounded_to_nearest;
+pub use laws::{coefficients_are_rounded_to_nearest, designs_fit};
