@@ -1,0 +1,3 @@
+mod OfForm
+mod Listed
+mod Ports
