@@ -1,3 +1,5 @@
 pub mod Joined
 pub mod PrintedLines
+pub mod PrintedParts
 pub mod Rows
+pub mod VerdictLines

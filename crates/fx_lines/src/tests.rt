@@ -1,8 +1,14 @@
-use crate::{code_fault_line, filter_fault_line, sample_fault_line, shown_filter};
+use crate::{
+    accepted_lines, cert_fault_line, code_fault_line, filter_fault_line, refused_line,
+    sample_fault_line, shown_filter,
+};
+use fx_block::Inequality;
+use fx_cert::{Cert, CertFault};
 use fx_code::LimitOf;
 use fx_decimal::DecimalFault;
 use fx_files::{FilterFault, Key, read_filter};
 use fx_sim::SampleFault;
+use fx_sweep::Place;
 use fx_text::CodeFault;
 use std::test::Fail;
 
@@ -158,6 +164,104 @@ fn sample_faults() -> [(SampleFault, &'static [u8]); 3] {
 fn sample_faults_have_their_lines(rt: HostRuntime) -> Result<(), Fail> {
     for (fault, line) in &sample_faults() {
         assert_eq!(rt; sample_fault_line(rt.alloc(), fault)?.as_slice(), *line);
+    }
+    Ok(())
+}
+
+fn cert_faults() -> [(CertFault, &'static [u8]); 5] {
+    [
+        (CertFault::Version, b"bad certificate version\n"),
+        (CertFault::Line(1), b"bad certificate line 1\n"),
+        (CertFault::Number(73), b"bad certificate number 73\n"),
+        (CertFault::Count(6, 3, 2), b"bad certificate count 6 3 2\n"),
+        (CertFault::AfterEnd, b"bad certificate after end\n"),
+    ]
+}
+
+#[test]
+fn cert_faults_have_their_lines(rt: HostRuntime) -> Result<(), Fail> {
+    for (fault, line) in &cert_faults() {
+        assert_eq!(rt; cert_fault_line(rt.alloc(), fault)?.as_slice(), *line);
+    }
+    Ok(())
+}
+
+// A half, the least error that is not 0, and the greatest one.
+#[test]
+fn an_accepted_certificate_has_its_errors(rt: HostRuntime) -> Result<(), Fail> {
+    let errors = [9223372036854775808, 1, 79228162514264337593543950335];
+    let certificate = Cert::build(rt.alloc(), 1, &[51], &errors)?;
+    assert_eq!(rt;
+        accepted_lines(rt.alloc(), &certificate)?.as_slice(),
+        b"accepted\nerror 0 0.500000000\nerror 1 0.000000001\nerror 2 4294967296.000000000\n".as_slice()
+    );
+    Ok(())
+}
+
+const LIMIT: i128 = 309485009821345068724781056;
+
+fn failures() -> [(Inequality, i128, i128, &'static [u8]); 13] {
+    [
+        (Inequality::Inputs, 2, 1, b"refused I1 inputs 2 1\n"),
+        (Inequality::Outputs, 4, 3, b"refused I1 outputs 4 3\n"),
+        (
+            Inequality::Accumulator,
+            32,
+            64,
+            b"refused I1 accumulator 32 64\n",
+        ),
+        (Inequality::InputWidth(3), 8, 9, b"refused I1 input 3 8 9\n"),
+        (
+            Inequality::OutputWidth(1),
+            8,
+            9,
+            b"refused I1 output 1 8 9\n",
+        ),
+        (Inequality::Rows, 3, 2, b"refused I1 rows 3 2\n"),
+        (Inequality::Errors, 2, 1, b"refused I1 errors 2 1\n"),
+        (
+            Inequality::Sweep(2, Place::Input(0)),
+            LIMIT + 1,
+            LIMIT,
+            b"refused I2 target 2 input 0 309485009821345068724781057 309485009821345068724781056\n",
+        ),
+        (
+            Inequality::Bound(63),
+            18446744073709551617,
+            18446744073709551616,
+            b"refused I3 row 63 18446744073709551617 18446744073709551616\n",
+        ),
+        (Inequality::Word(0), 128, 127, b"refused I4 row 0 128 127\n"),
+        (Inequality::Sum(1), 129, 128, b"refused I5 row 1 129 128\n"),
+        (Inequality::Error(0), 9, 8, b"refused I6 output 0 9 8\n"),
+        (Inequality::Wanted(3), 1, -1, b"refused I7 output 3 1 -1\n"),
+    ]
+}
+
+#[test]
+fn failures_have_their_lines(rt: HostRuntime) -> Result<(), Fail> {
+    for (which, left, right, line) in &failures() {
+        assert_eq!(rt;
+            refused_line(rt.alloc(), *which, *left, *right)?.as_slice(),
+            *line
+        );
+    }
+    Ok(())
+}
+
+fn places() -> [(Place, &'static [u8]); 3] {
+    [
+        (Place::Weight(7), b"refused I2 target 0 weight 7 5 4\n"),
+        (Place::Gain(8), b"refused I2 target 0 gain 8 5 4\n"),
+        (Place::Rest(9), b"refused I2 target 0 rest 9 5 4\n"),
+    ]
+}
+
+#[test]
+fn places_of_a_sweep_are_named(rt: HostRuntime) -> Result<(), Fail> {
+    for (place, line) in &places() {
+        let which = Inequality::Sweep(0, *place);
+        assert_eq!(rt; refused_line(rt.alloc(), which, 5, 4)?.as_slice(), *line);
     }
     Ok(())
 }
