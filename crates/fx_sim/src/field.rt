@@ -8,6 +8,11 @@ ghost use Rattle.fx_sim.specs.Fields.{field_value, magnitude, skipped};
 /// The most digits of a field.
 pub const FIELD_DIGITS: usize = 18;
 
+/// The number that the limit of digits is.
+pub fn field_digits_is_this()
+    ensures { FIELD_DIGITS ≡ 18 }
+{}
+
 fn is_blank(byte: u8) -> bool
     ensures { result ≡ is_blank byte }
 {

@@ -12,5 +12,6 @@ mod tests;
 mod text;
 
 pub use fault::SampleFault;
+pub use field::field_digits_is_this;
 pub use laws::{fields_are_read_exactly, samples_are_read_exactly};
 pub use simulation::simulate;
