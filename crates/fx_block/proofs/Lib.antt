@@ -10,3 +10,4 @@ mod Examples
 mod Raising
 mod Raised
 mod Ended
+mod Made

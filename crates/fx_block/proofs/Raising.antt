@@ -5,7 +5,7 @@ use Rattle.std.proofs.Math.IntN.{ℤ, pos, negsuc, ◌+ℤ◌, ◌*ℤ◌}
 use Rattle.std.specs.Int.Signed.{◌≤ℤ◌, ◌<ℤ◌}
 use Rattle.std.specs.Prelude.{unsigned_abs, Option, Some, None}
 use Rattle.std.specs.Option.{option_or}
-use Rattle.std.proofs.lemmas.Bool.{cases_lt, cond-true, cond-false, lt-ltb, le-ltb, ltb-true, eqb-true}
+use Rattle.std.proofs.lemmas.Bool.{cases_lt, cond-true, cond-false, lt-ltb, le-ltb, ltb-true, ltb-false, eqb-true}
 use Rattle.std.proofs.lemmas.Int.{ints}
 use Rattle.std.proofs.lemmas.Nat.{pow_pos}
 use Rattle.fx_math.specs.Division.{ceil_div}
@@ -95,9 +95,14 @@ row_of (Rest rows) = 0
 row_of (Over j value cap) = j
 row_of (Slow j before after) = 0
 
--- raises that rest did so at once, or went on
-RestsSo : ℕ → (ℕ → ℕ) → (ℕ → ℕ) → (ℕ → Raises) → (ℕ → ℕ) → Type 0
-RestsSo n rows next go_on x = ((rows ≡ x) × ((j : ℕ) → j < n → next j ≡ rows j)) ⊎ ((j : ℕ) × (go_on j ≡ Rest x))
+-- raises that rest did so at once, within the caps, or went on
+pub record RestsAtOnce (n : ℕ) (caps rows next x : ℕ → ℕ) : Type 0 where
+  pub bounds_are : rows ≡ x
+  pub stays : (j : ℕ) → j < n → next j ≡ rows j
+  pub within : (j : ℕ) → j < n → next j ≤ caps j
+
+RestsSo : ℕ → (ℕ → ℕ) → (ℕ → ℕ) → (ℕ → ℕ) → (ℕ → Raises) → (ℕ → ℕ) → Type 0
+RestsSo n caps rows next go_on x = RestsAtOnce n caps rows next x ⊎ ((j : ℕ) × (go_on j ≡ Rest x))
 
 unchanged : (a b : ℕ) → not (eqb a b) ≡ false → a ≡ b
 unchanged a b e = by (eqb a b) refl e
@@ -107,19 +112,21 @@ unchanged a b e = by (eqb a b) refl e
     by false f g = cc
 
 rests : (n : ℕ) (caps rows next x : ℕ → ℕ) (go_on : ℕ → Raises) → ended_by n caps rows next go_on ≡ Rest x →
-    RestsSo n rows next go_on x
+    RestsSo n caps rows next go_on x
 unfolding RestsSo rest_of
 rests n caps rows next x go_on e =
-    by (first_row n (λ j. ltb (caps j) (next j))) (first_row n (λ j. not (eqb (next j) (rows j)))) refl e
+    by (first_row n (λ j. ltb (caps j) (next j))) refl (first_row n (λ j. not (eqb (next j) (rows j)))) refl e
   where
-    by : (over changed : Option ℕ) → first_row n (λ j. not (eqb (next j) (rows j))) ≡ changed →
-        ended caps rows next over changed go_on ≡ Rest x → RestsSo n rows next go_on x
-    by (Some j) changed f g = cc
-    by None None f g = inl (
-      ap rest_of g,
-      (λ j l. unchanged (next j) (rows j) (none_passes n (λ j. not (eqb (next j) (rows j))) f j l)),
-    )
-    by None (Some j) f g = inr (j, g)
+    by : (over : Option ℕ) → first_row n (λ j. ltb (caps j) (next j)) ≡ over → (changed : Option ℕ) →
+        first_row n (λ j. not (eqb (next j) (rows j))) ≡ changed →
+        ended caps rows next over changed go_on ≡ Rest x → RestsSo n caps rows next go_on x
+    by (Some j) h changed f g = cc
+    by None h None f g = inl (record {
+      bounds_are = ap rest_of g;
+      stays = λ j l. unchanged (next j) (rows j) (none_passes n (λ j. not (eqb (next j) (rows j))) f j l);
+      within = λ j l. ltb-false (caps j) (next j) (none_passes n (λ j. ltb (caps j) (next j)) h j l);
+    })
+    by None h (Some j) f g = inr (j, g)
 
 -- raises of which one passed its cap did so at once, or went on
 PassesSo : ℕ → (ℕ → ℕ) → (ℕ → ℕ) → (ℕ → Raises) → ℕ → ℕ → ℕ → Type 0
@@ -210,13 +217,13 @@ module _ (grow : TotalsGrow) (none : NoTotalIsNegative) (net : Net) (n : ℕ) (l
   rest_least some zero rows x below e =
       elim (rests n caps rows (raise net n lengths bounds rows) x (λ j.
       Slow j (rows j) (raise net n lengths bounds rows j)) e) [
-        | inl at ↦ settled some rows x below at.0 at.1
+        | inl at ↦ settled some rows x below at.bounds_are at.stays
         | inr on ↦ (let never : Slow on.0 (rows on.0) (raise net n lengths bounds rows on.0) ≡ Rest x = on.1 in cc)
       ]
   rest_least some (suc more) rows x below e =
       elim (rests n caps rows (raise net n lengths bounds rows) x (λ j.
       raises net n lengths bounds caps more (raise net n lengths bounds rows)) e) [
-        | inl at ↦ settled some rows x below at.0 at.1
+        | inl at ↦ settled some rows x below at.bounds_are at.stays
         | inr on ↦ rest_least some more (raise net n lengths bounds rows) x (stays_below rows below) on.1
       ]
 
@@ -252,6 +259,28 @@ module _ (grow : TotalsGrow) (none : NoTotalIsNegative) (net : Net) (n : ℕ) (l
   from_zero : IsBelowAll (λ j. 0)
   unfolding IsBelowAll
   from_zero others serve j = omega arith
+
+kept : (n : ℕ) (caps rows next x : ℕ → ℕ) → RestsAtOnce n caps rows next x → (j : ℕ) → j < n → x j ≤ caps j
+kept n caps rows next x at j l =
+    let same : rows j ≡ x j = ap (λ (f : ℕ → ℕ). f j) at.bounds_are in
+    omega (arith, at.within j l, at.stays j l, same)
+
+-- raises that come to rest passed no cap
+pub rest_within : (net : Net) (n : ℕ) (lengths bounds caps : ℕ → ℕ) (more : ℕ) (rows x : ℕ → ℕ) →
+    raises net n lengths bounds caps more rows ≡ Rest x → (j : ℕ) → j < n → x j ≤ caps j
+unfolding RestsSo
+rest_within net n lengths bounds caps zero rows x e j l =
+    elim (rests n caps rows (raise net n lengths bounds rows) x
+    (λ i. Slow i (rows i) (raise net n lengths bounds rows i)) e) [
+      | inl at ↦ kept n caps rows (raise net n lengths bounds rows) x at j l
+      | inr on ↦ (let never : Slow on.0 (rows on.0) (raise net n lengths bounds rows on.0) ≡ Rest x = on.1 in cc)
+    ]
+rest_within net n lengths bounds caps (suc more) rows x e j l =
+    elim (rests n caps rows (raise net n lengths bounds rows) x
+    (λ i. raises net n lengths bounds caps more (raise net n lengths bounds rows)) e) [
+      | inl at ↦ kept n caps rows (raise net n lengths bounds rows) x at j l
+      | inr on ↦ rest_within net n lengths bounds caps more (raise net n lengths bounds rows) x on.1 j l
+    ]
 
 pub rest_is_least : TotalsGrow → NoTotalIsNegative → RestIsLeast
 rest_is_least grow none net n lengths bounds caps rows inside some e =

@@ -12,3 +12,4 @@ pub mod Failure
 pub mod Certified
 pub mod Candidate
 pub mod Told
+pub mod Made

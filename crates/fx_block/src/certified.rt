@@ -1,6 +1,8 @@
 ghost use Rattle.fx_block.specs.Certified.{NoneFails, OriginalStaysWithin, PassingIsSound};
+ghost use Rattle.fx_block.specs.Made.{CandidatesPass};
 
 use crate::laws::bounds_make_near;
+use crate::least::raises_find_the_least;
 use fx_cert::{Cert, certificates_fit};
 use fx_code::{Program, programs_fit};
 use fx_eqs::systems_fit;
@@ -24,3 +26,11 @@ pub fn inequalities_make_sound(filter: &Filter, program: &Program, certificate: 
 pub fn none_fails_where_all_hold()
     ensures { NoneFails }
 {}
+
+/// A law with nothing to run: a program that has the rows of a candidate that passes, and a certificate that has its
+/// bounds and totals, meet all inequalities.
+pub fn passing_candidates_pass()
+    ensures { CandidatesPass }
+{
+    raises_find_the_least();
+}

@@ -7,7 +7,7 @@ mod inequality;
 mod laws;
 mod least;
 
-pub use certified::{inequalities_make_sound, none_fails_where_all_hold};
+pub use certified::{inequalities_make_sound, none_fails_where_all_hold, passing_candidates_pass};
 pub use inequality::Inequality;
 pub use laws::{
     bounded_rows_are_exact, bounds_make_near, ideal_values_run, joint_nets_hold_both,
