@@ -1,0 +1,4 @@
+pub mod Kinds
+pub mod Places
+pub mod Faults
+pub mod Laws

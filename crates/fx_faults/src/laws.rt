@@ -1,0 +1,16 @@
+ghost use Rattle.fx_faults.specs.Laws.{FaultsAreTrue, NoTableLaw, NoneIsDescribed};
+
+/// A law with nothing to run: what a fault says that is told of a filter file is so.
+pub fn told_faults_are_true()
+    ensures { FaultsAreTrue }
+{}
+
+/// A law with nothing to run: `NotToml` is told exactly where the bytes are no text in UTF-8 or the text is no table.
+pub fn no_table_is_told_exactly()
+    ensures { NoTableLaw }
+{}
+
+/// A law with nothing to run: a table of which a fault is told describes no filter.
+pub fn faulty_tables_describe_no_filter()
+    ensures { NoneIsDescribed }
+{}

@@ -1,0 +1,6 @@
+//! What each fault of a filter file says of its table.
+#![tactic(auto)]
+
+mod laws;
+
+pub use laws::{faulty_tables_describe_no_filter, no_table_is_told_exactly, told_faults_are_true};
