@@ -1,3 +1,5 @@
-mod OfForm
+mod AtRest
 mod Listed
+mod OfForm
 mod Ports
+mod Trials

@@ -1,1 +1,4 @@
+pub mod Candidates
+pub mod Designs
+pub mod Search
 pub mod Structures

@@ -1,11 +1,11 @@
 -- The implicit form of the structure that a filter asks for, or why there is none; and whose outputs it has.
-use Rattle.std.specs.Prelude.{◌≡◌, ℕ, ◌+◌, ◌==◌, nat_le, Bool, true, false, List, [], ◌∷◌, length, Result, Ok, Err}
+use Rattle.std.specs.Prelude.{◌≡◌, ℕ, ◌+◌, ◌==◌, ◌≤◌, nat_le, Bool, true, false, List, [], ◌∷◌, length, Result, Ok, Err}
 use Rattle.fx_math.specs.Faults.{◌>>=◌, unless}
 use Rattle.fx_math.specs.Sums.{joined}
 use Rattle.fx_nums.specs.Fraction.{Fraction}
 use Rattle.fx_eqs.specs.Equations.{Equations}
 use Rattle.fx_eqs.specs.Textbook.{lattice_equations}
-use Rattle.fx_eqs.specs.declared.limits.TheConstants.{REFLECTIONS}
+use Rattle.fx_eqs.specs.declared.limits.TheConstants.{EQUATION_TERMS, REFLECTIONS}
 use Rattle.fx_files.specs.Coefficients as coefficients
 use Rattle.fx_files.specs.Coefficients.{Coefficients, coefficients_of}
 use Rattle.fx_files.specs.Filter.{Filter}
@@ -114,6 +114,10 @@ built_equations f = equations_by f.coefficients f.settings.structure f.equations
 pub record HasPorts (f : Filter) (s : Implicit) : Type 0 where
   pub inputs : s.sizes.u ≡ length f.inputs
   pub outputs : s.sizes.y ≡ length f.outputs
+
+-- its entries are no more than the terms of a system
+abbrev pub HasFewEntries : Implicit → Type 0
+HasFewEntries s = length s.entries ≤ EQUATION_TERMS
 
 -- ---- an answer
 

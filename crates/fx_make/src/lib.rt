@@ -1,10 +1,12 @@
-//! Integer code for a filter: the structure that it asks for, as a filter in implicit form.
+//! Integer code for a filter: the structure that it asks for, as a filter in implicit form, and the search for a design.
 #![tactic(auto)]
 
+mod fail;
 mod refusal;
 mod structure;
 #[cfg(test)]
 mod tests;
 
+pub use fail::{Fail, Failed};
 pub use refusal::StructureFault;
 pub use structure::build_structure;

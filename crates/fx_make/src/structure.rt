@@ -12,6 +12,7 @@ ghost use Rattle.fx_sif.specs.SameOutputs.{HasOutputs};
 ghost use Rattle.fx_space.specs.Matrices.{SpaceFits};
 ghost use Rattle.fx_space.specs.Space.{space_equations};
 ghost use Rattle.fx_make.specs.Structures.{
+  HasFewEntries,
   HasPorts,
   built_equations,
   equations_by,
@@ -29,14 +30,19 @@ ghost use Rattle.fx_make.specs.Structures.{
 };
 
 use crate::refusal::StructureFault;
-use fx_cascade::{cascade_df1, cascade_df2t};
-use fx_direct::{df1, df2, df2t, fir};
+use fx_cascade::{
+    cascade_df1, cascade_df1_is_never_refused, cascade_df2t, cascade_df2t_is_never_refused,
+};
+use fx_direct::{
+    df1, df1_is_never_refused, df2, df2_is_never_refused, df2t, df2t_is_never_refused, fir,
+    fir_is_never_refused,
+};
 use fx_eqs::REFLECTIONS;
 use fx_files::{Filter, Form, Key, Structure, filters_fit};
-use fx_lattice::{Ladder, ladder_sif, step_down};
+use fx_lattice::{Ladder, ladder_is_never_refused, ladder_sif, step_down};
 use fx_nums::Frac;
 use fx_sif::{Sif, Sizes};
-use fx_space::space;
+use fx_space::{space, space_is_never_refused};
 use std::alloc::{AllocError, Global};
 
 // The structure without feedback.
@@ -45,10 +51,12 @@ fn fir_form(alloc: Global, b: &[Frac], a: &[Frac]) -> Result<Sif, StructureFault
     requires { TransferFits b.now a.now }
     ensures value { Gives is_memory (λ s. s) result (fir_or_refusal b.now a.now) }
     ensures same { IfOk result (λ s. HasOutputs s (tf_equations b.now a.now)) }
+    ensures few { IfOk result HasFewEntries }
 {
     if a.len() != 1 {
         return Err(StructureFault::NotFir(a.len()));
     }
+    fir_is_never_refused(b);
     Ok(fir(alloc, b)?)
 }
 
@@ -84,6 +92,7 @@ fn step_down_form(alloc: Global, b: &[Frac], a: &[Frac]) -> Result<Sif, Structur
     ensures value { Gives is_memory (λ s. s) result (step_down_or_refusal b.now a.now) }
     ensures same { IfOk result (λ s. HasOutputs s
         (ladder_equations (step_down b.now a.now) (tf_equations b.now a.now))) }
+    ensures few { IfOk result HasFewEntries }
 {
     let order = b.len().max(a.len()) - 1;
     if order > REFLECTIONS {
@@ -92,6 +101,7 @@ fn step_down_form(alloc: Global, b: &[Frac], a: &[Frac]) -> Result<Sif, Structur
     let ladder = step_down(alloc, b, a)?;
     let k = reflections(alloc, &ladder)?;
     let v = taps(alloc, &ladder)?;
+    ladder_is_never_refused(&k, &v);
     Ok(ladder_sif(alloc, &k, &v)?)
 }
 
@@ -106,7 +116,11 @@ fn transfer_form(
     ensures value { Gives is_memory (λ s. s) result (transfer_form b.now a.now structure) }
     ensures same { IfOk result (λ s. HasOutputs s
         (equations_by (coefficients.Tf b.now a.now) structure (tf_equations b.now a.now))) }
+    ensures few { IfOk result HasFewEntries }
 {
+    df1_is_never_refused(b, a);
+    df2_is_never_refused(b, a);
+    df2t_is_never_refused(b, a);
     match structure {
         Structure::Df1 => Ok(df1(alloc, b, a)?),
         Structure::Df2 => Ok(df2(alloc, b, a)?),
@@ -126,7 +140,10 @@ fn sections_form(
     requires { CascadeFits sections.now }
     ensures value { Gives is_memory (λ s. s) result (sections_form sections.now structure) }
     ensures same { IfOk result (λ s. HasOutputs s (sos_equations sections.now)) }
+    ensures few { IfOk result HasFewEntries }
 {
+    cascade_df1_is_never_refused(sections);
+    cascade_df2t_is_never_refused(sections);
     match structure {
         Structure::Df1 => Ok(cascade_df1(alloc, sections)?),
         Structure::Df2t => Ok(cascade_df2t(alloc, sections)?),
@@ -144,7 +161,9 @@ fn space_form(
     requires { SpaceFits sizes abcd.now }
     ensures value { Gives is_memory (λ s. s) result (space_form sizes abcd.now structure) }
     ensures same { IfOk result (λ s. HasOutputs s (space_equations sizes abcd.now)) }
+    ensures few { IfOk result HasFewEntries }
 {
+    space_is_never_refused(sizes, abcd);
     match structure {
         Structure::Ss => Ok(space(alloc, sizes, abcd)?),
         _ => Err(StructureFault::NotListed(Form::Ss, structure)),
@@ -161,7 +180,9 @@ fn lattice_form(
     requires { LadderFits k.now v.now }
     ensures value { Gives is_memory (λ s. s) result (lattice_form k.now v.now structure) }
     ensures same { IfOk result (λ s. HasOutputs s (lattice_equations k.now v.now)) }
+    ensures few { IfOk result HasFewEntries }
 {
+    ladder_is_never_refused(k, v);
     match structure {
         Structure::Lattice => Ok(ladder_sif(alloc, k, v)?),
         _ => Err(StructureFault::NotListed(Form::Lattice, structure)),
@@ -174,6 +195,7 @@ fn of_transfer(alloc: Global, filter: &Filter) -> Result<Sif, StructureFault>
     requires { form_of filter.now.coefficients ≡ form.Tf }
     ensures value { Gives is_memory (λ s. s) result (structure_form filter.now) }
     ensures same { IfOk result (λ s. HasOutputs s (built_equations filter.now)) }
+    ensures few { IfOk result HasFewEntries }
 {
     filters_fit(filter);
     let (b, a) = (filter.list(Key::B), filter.list(Key::A));
@@ -186,6 +208,7 @@ fn of_sections(alloc: Global, filter: &Filter) -> Result<Sif, StructureFault>
     requires { form_of filter.now.coefficients ≡ form.Sos }
     ensures value { Gives is_memory (λ s. s) result (structure_form filter.now) }
     ensures same { IfOk result (λ s. HasOutputs s (built_equations filter.now)) }
+    ensures few { IfOk result HasFewEntries }
 {
     filters_fit(filter);
     sections_form(alloc, filter.list(Key::Sections), filter.structure())
@@ -197,6 +220,7 @@ fn of_space(alloc: Global, filter: &Filter) -> Result<Sif, StructureFault>
     requires { form_of filter.now.coefficients ≡ form.Ss }
     ensures value { Gives is_memory (λ s. s) result (structure_form filter.now) }
     ensures same { IfOk result (λ s. HasOutputs s (built_equations filter.now)) }
+    ensures few { IfOk result HasFewEntries }
 {
     filters_fit(filter);
     let (inputs, outputs) = (filter.inputs().len(), filter.outputs().len());
@@ -216,6 +240,7 @@ fn of_lattice(alloc: Global, filter: &Filter) -> Result<Sif, StructureFault>
     requires { form_of filter.now.coefficients ≡ form.Lattice }
     ensures value { Gives is_memory (λ s. s) result (structure_form filter.now) }
     ensures same { IfOk result (λ s. HasOutputs s (built_equations filter.now)) }
+    ensures few { IfOk result HasFewEntries }
 {
     filters_fit(filter);
     let (k, v) = (filter.list(Key::K), filter.list(Key::V));
@@ -226,14 +251,15 @@ fn of_lattice(alloc: Global, filter: &Filter) -> Result<Sif, StructureFault>
 /// transfer function's lattice, whose fractions step-down cuts, has those of its own equations.
 ///
 /// A transfer function may be `df1`, `df2`, `df2t`, `fir` or `lattice`, sections `df1` or `df2t`, a state space `ss`
-/// and a lattice `lattice`. Its error is the first refusal: `NotListed` for other structures; `NotFir` with the count of
-/// the denominator's coefficients, where these are more than one; `Order` above `REFLECTIONS` of fx_eqs; then the
+/// and a lattice `lattice`. Its error is the first refusal: `NotListed` for other structures; `NotFir` with the count
+/// of the denominator's coefficients, where these are more than one; `Order` above `REFLECTIONS` of fx_eqs; then the
 /// refusals of step-down. `NoMemory` may come at any time.
 #[tactic(auto, using(crate::proofs::Ports::has_ports))]
 pub fn build_structure(alloc: Global, filter: &Filter) -> Result<Sif, StructureFault>
     ensures value { Gives is_memory (λ s. s) result (structure_form filter.now) }
     ensures same { IfOk result (λ s. HasOutputs s (built_equations filter.now)) }
     ensures ports { IfOk result (λ s. HasPorts filter.now s) }
+    ensures few { IfOk result HasFewEntries }
 {
     filters_fit(filter);
     match filter.form() {
