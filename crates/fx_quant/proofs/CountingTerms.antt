@@ -1,26 +1,25 @@
 -- A design has no more terms than its form has entries.
-use Rattle.std.proofs.Common.{◌≡◌, ℕ, zero, suc, ◌+◌, ◌-◌, ◌*◌, ◌^◌, ◌<◌, ◌≤◌, inl, inr, Bool, true, false, ◌&&◌, cond, eqb}
+use Rattle.std.proofs.Common.{◌≡◌, ℕ, zero, suc, ◌+◌, ◌<◌, ◌≤◌, Bool, true, false, cond, eqb}
 use Rattle.std.proofs.Common.{List, [], ◌∷◌, ◌++◌, map, filter, length, Result, Ok, refl, arith, sym, ap, subst, ◌∙◌}
 use Rattle.std.proofs.Common.{length-append, unsigned_abs, lit<}
-use Rattle.std.proofs.Math.IntN.{ℤ, pos}
-use Rattle.std.proofs.lemmas.Bool.{cond_both, cases_lt, and_parts, eqb-true, eq-eqb}
+use Rattle.std.proofs.Math.IntN.{ℤ}
+use Rattle.std.proofs.lemmas.Bool.{cond_both, and_parts, eqb-true, eq-eqb}
 use Rattle.std.proofs.lemmas.Int.{ints}
 use Rattle.std.proofs.lemmas.List.Sums.{sum_by_push}
-use Rattle.fx_math.specs.Sums.{joined, sum_below}
-use Rattle.fx_nums.specs.Fraction.{Fraction, zero_fraction, den_value}
+use Rattle.fx_math.specs.Sums.{sum_below}
+use Rattle.fx_nums.specs.Fraction.{Fraction, zero_fraction}
 use Rattle.fx_eqs.specs.Expanded.{NetRead, NetTerm}
 use Rattle.fx_eqs.specs.Expanded.NetRead.{Now, Old, In}
 use Rattle.fx_net.specs.Links.{coefficients}
-use Rattle.fx_net.specs.Net.{Net, plain, empty_net}
+use Rattle.fx_net.specs.Net.{Net, plain}
 use Rattle.fx_net.specs.Rows.{reads_now, reads_old, reads_input, coefficient_or, coefficient, put_rows}
 use Rattle.fx_net.specs.declared.net.Which.{Which}
 use Rattle.fx_net.specs.declared.net.Which.TheVariants.{Now as NowTable, Old as OldTable, In as InTable}
 use Rattle.fx_code.specs.Code.{BareRow}
 use Rattle.fx_sif.specs.Implicit.{Implicit, rows}
-use Rattle.fx_sif.specs.Rows.{row_place, is_read, term_of, is_in_row, net_row, rows_of}
+use Rattle.fx_sif.specs.Rows.{row_place, term_of, is_in_row, net_row}
 use Rattle.fx_sif.specs.declared.parts.Entry.{Entry}
 use Rattle.fx_sif.specs.declared.parts.Sizes.{Sizes}
-use Rattle.fx_sif.specs.declared.limits.TheConstants.{FORM_ROWS}
 use Rattle.fx_sif.proofs.Summing.{row_is}
 use Rattle.fx_quant.specs.Design.{term_count}
 use Rattle.fx_quant.specs.Positions.{Grid}
@@ -28,7 +27,6 @@ use Rattle.fx_quant.specs.Quantised.{form_net}
 use Rattle.fx_quant.specs.Rounding.{rounded}
 use Rattle.fx_quant.specs.Rows.{scaled, kept_or_dropped, kept, kept_of, kept_terms, read, first_rows}
 use Rattle.fx_quant.specs.declared.fault.QuantFault.{QuantFault}
-use Rattle.fx_quant.specs.declared.scaled.Scaled.{Scaled}
 use Rattle.fx_code.specs.declared.term.Read.{Read}
 use Rattle.fx_quant.proofs.Rounding.{to_nearest}
 use Rattle.fx_quant.proofs.RowByRow.{both}

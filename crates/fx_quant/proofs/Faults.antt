@@ -1,13 +1,13 @@
 -- First faults of rows.
-use Rattle.std.proofs.Common.{◌≡◌, ℕ, zero, suc, ◌+◌, ◌<◌, ◌≤◌, ◌⊎◌, inl, inr, Bool, true, false, List, [], ◌∷◌}
-use Rattle.std.proofs.Common.{◌++◌, map, All, Option, Some, None, Result, Ok, Err, refl, arith, subst, sym, ap}
+use Rattle.std.proofs.Common.{◌≡◌, ℕ, zero, suc, ◌+◌, ◌<◌, inl, inr, Bool, true, false, List, [], ◌∷◌}
+use Rattle.std.proofs.Common.{◌++◌, map, All, None, Result, Ok, Err, refl, arith, subst, sym, ap}
 use Rattle.std.proofs.Common.{◌∙◌}
 use Rattle.std.proofs.lemmas.List.Elements.{All-cons, All-nil}
 use Rattle.std.proofs.lemmas.Bool.{cases_lt}
 use Rattle.std.proofs.lemmas.List.{map-append}
 use Rattle.fx_math.specs.Answers.{IsFault, Fails}
-use Rattle.fx_math.specs.Faults.{fault_if, ◌>>=◌}
-use Rattle.fx_math.proofs.Answers.{fault_through, fails_through}
+use Rattle.fx_math.specs.Faults.{◌>>=◌}
+use Rattle.fx_math.proofs.Answers.{fails_through}
 use Rattle.fx_math.proofs.Faults.{if_none}
 use Rattle.fx_code.specs.Code.{BareRow}
 use Rattle.fx_net.specs.Net.{Net}

@@ -1,16 +1,14 @@
 -- The designs of a form with few entries fit a program.
-use Rattle.std.proofs.Common.{◌≡◌, ℕ, ◌<◌, ◌≤◌, List, length, Result, Ok, refl, arith, sym, ap, subst, ◌∙◌, All}
+use Rattle.std.proofs.Common.{◌≡◌, ℕ, ◌<◌, ◌≤◌, List, length, Ok, arith, sym, ap, subst, ◌∙◌, All}
 use Rattle.std.proofs.lemmas.List.{length-map}
 use Rattle.fx_code.specs.Code.{BareRow, OldIsThere}
 use Rattle.fx_code.specs.Fits.{ReadsFit}
 use Rattle.fx_code.specs.NetRows.{bare_at}
 use Rattle.fx_code.specs.declared.limits.TheConstants.{CODE_TERMS}
 use Rattle.fx_code.specs.declared.term.CodeTerm.{CodeTerm}
-use Rattle.fx_net.specs.Net.{Net}
 use Rattle.fx_sif.specs.Fits.{ImplicitFits}
 use Rattle.fx_sif.specs.Implicit.{Implicit, rows}
 use Rattle.fx_quant.specs.Design.{Quantised, BareFits, DesignFits, sized}
-use Rattle.fx_quant.specs.Laws.{DesignsFit}
 use Rattle.fx_quant.specs.Positions.{Grid, grid}
 use Rattle.fx_quant.specs.Quantised.{form_net, net_rows, quantised}
 use Rattle.fx_quant.specs.Rows.{kept_terms, quantised_row, bare_row, code_term, shift_of}
@@ -45,13 +43,15 @@ rows_fit f accumulator g bare fits few e =
         few,
         terms_within g f
             (λ i. quantised_row accumulator i (kept_terms g (form_net f) n u i)) u bare
-            (λ i r l k. ap (λ (x : BareRow). length x.terms) (row_is_bare accumulator i (kept_terms g (form_net f) n u i) r k).1
+            (λ i r l k. ap (λ (x : BareRow). length x.terms)
+            (row_is_bare accumulator i (kept_terms g (form_net f) n u i) r k).1
             ∙ length-map (kept_terms g (form_net f) n u i) (code_term (shift_of (kept_terms g (form_net f) n u i)))) e,
       );
     }
 
-pub designs_fit : (f : Implicit) → ImplicitFits f → DesignsFit f
-designs_fit f fits few formats guards fraction d e =
+pub designs_fit : (f : Implicit) (formats : Formats) (guards : List ℕ) (fraction : ℕ) (d : Quantised) →
+    ImplicitFits f → quantised f formats guards fraction ≡ Ok d → length f.entries ≤ CODE_TERMS → DesignFits d
+designs_fit f formats guards fraction d fits e few =
     let p = both (net_rows formats.accumulator (grid formats guards f.sizes.y fraction) (form_net f) (rows f.sizes)
     f.sizes.u) _ d e in
     let same : record { accumulator = formats.accumulator; inputs = f.sizes.u; rows = p.0 } ≡ d = cc in

@@ -1,19 +1,17 @@
 -- The rows of a design are within the limits of a program.
-use Rattle.std.proofs.Common.{◌≡◌, ℕ, zero, suc, ◌+◌, ◌*◌, ◌^◌, ◌<◌, ◌≤◌, Bool, true, false, ◌||◌, cond, eqb}
-use Rattle.std.proofs.Common.{List, [], ◌∷◌, ◌++◌, map, length, All, None, refl, arith, sym, ap, unsigned_abs, nat_lt}
-use Rattle.std.proofs.Math.IntN.{ℤ, pos}
+use Rattle.std.proofs.Common.{◌≡◌, ℕ, zero, suc, ◌+◌, ◌^◌, ◌<◌, ◌≤◌, true, false, eqb}
+use Rattle.std.proofs.Common.{List, [], ◌∷◌, ◌++◌, map, All, None, refl, arith, ap, unsigned_abs, nat_lt}
+use Rattle.std.proofs.Math.IntN.{ℤ}
 use Rattle.std.specs.List.{IsDistinct, list_any, AllByRecursion}
 use Rattle.std.proofs.lemmas.Bool.{or_parts, ltb-false, cond_both, false_from_ne_true, eqb-true}
-use Rattle.std.proofs.lemmas.List.Elements.{All-nil, All-cons, All-head, All-tail, All-append, All-map, All-weaker}
-use Rattle.fx_math.specs.Faults.{fault_if}
-use Rattle.fx_math.specs.Sums.{joined}
+use Rattle.std.proofs.lemmas.List.Elements.{All-nil, All-cons, All-head, All-tail, All-append, All-map}
 use Rattle.fx_math.proofs.Faults.{if_none}
 use Rattle.fx_math.proofs.Orders.{not_le}
 use Rattle.fx_net.specs.Links.{coefficients}
 use Rattle.fx_net.specs.Net.{Net}
 use Rattle.fx_net.specs.declared.net.Which.{Which}
 use Rattle.fx_net.specs.declared.net.Which.TheVariants.{Now as NowTable, Old as OldTable, In as InTable}
-use Rattle.fx_code.specs.Code.{BareRow, OldIsThere}
+use Rattle.fx_code.specs.Code.{OldIsThere}
 use Rattle.fx_code.specs.Fits.{TermFits, SourceFits, ReadsFit}
 use Rattle.fx_code.specs.Limits.{same_source}
 use Rattle.fx_code.specs.declared.limits.TheConstants.{CODE_ROWS, COEFFICIENT_BITS, PRODUCT_BITS, LONGEST_SHIFT}
@@ -24,7 +22,7 @@ use Rattle.fx_quant.specs.Design.{BareFits, sized}
 use Rattle.fx_quant.specs.Positions.{Grid}
 use Rattle.fx_quant.specs.Rounding.{rounded}
 use Rattle.fx_quant.specs.Rows.{scaled, kept, kept_of, kept_terms, read, shift_of, left_of, code_term, bare_row}
-use Rattle.fx_quant.specs.Rows.{product_of, is_wide, shifts_far, IsNarrow, row_fault}
+use Rattle.fx_quant.specs.Rows.{product_of, shifts_far, IsNarrow, row_fault}
 use Rattle.fx_quant.specs.declared.scaled.Scaled.{Scaled}
 use Rattle.fx_quant.proofs.Faults.{all_narrow}
 use Rattle.fx_quant.proofs.Rounding.{narrow_small}
@@ -42,8 +40,9 @@ term_fits shift k near narrow =
       scaled = not_le (2 ^ (PRODUCT_BITS + shift)) (unsigned_abs (product_of shift k)) bounds.1;
     }
 
-terms_fit : (shift : ℕ) (ks : List Scaled) → list_any (λ (k : Scaled). nat_lt LONGEST_SHIFT (left_of shift k)) ks ≡ false →
-    All (IsNarrow shift) ks → All (λ k. TermFits shift (code_term shift k)) ks
+terms_fit : (shift : ℕ) (ks : List Scaled) →
+    list_any (λ (k : Scaled). nat_lt LONGEST_SHIFT (left_of shift k)) ks ≡ false → All (IsNarrow shift) ks →
+    All (λ k. TermFits shift (code_term shift k)) ks
 terms_fit shift [] near narrow = All-nil (λ k. TermFits shift (code_term shift k))
 terms_fit shift (k ∷ ks) near narrow =
     let p = or_parts (nat_lt LONGEST_SHIFT (left_of shift k)) (list_any (λ (x : Scaled).

@@ -3,6 +3,7 @@ mod CountingTerms
 mod Faults
 mod FittingDesigns
 mod FittingRows
+mod LeastWidths
 mod Programs
 mod Rounding
 mod RowByRow

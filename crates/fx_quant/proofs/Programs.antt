@@ -1,7 +1,7 @@
 -- A design as a program: its parts are never refused.
 use Rattle.std.proofs.Common.{◌≡◌, ℕ, zero, suc, ◌+◌, ◌-◌, ◌<◌, ◌≤◌, Bool, true, false, List, [], ◌∷◌, ◌++◌, map}
-use Rattle.std.proofs.Common.{take, length, All, IsTrue, Option, Some, None, refl, arith, sym, ap, subst, ◌∙◌, length-append}
-use Rattle.std.specs.Prelude.{sum_by, slice_index, slice_index_or}
+use Rattle.std.proofs.Common.{take, length, All, IsTrue, Option, None, refl, arith, sym, ap, subst, ◌∙◌, length-append}
+use Rattle.std.specs.Prelude.{slice_index, slice_index_or}
 use Rattle.std.proofs.lemmas.Bool.Decides.{nat_tests}
 use Rattle.std.proofs.lemmas.List.{map_push, take_more, take_all}
 use Rattle.std.proofs.lemmas.List.Elements.{All-nil, All-push, All-get_or}
@@ -9,11 +9,10 @@ use Rattle.std.proofs.lemmas.List.Sums.{sum_by_push, sum_by_more, sum_by-take-le
 use Rattle.fx_math.specs.Answers.{told}
 use Rattle.fx_math.specs.Words.{WidthFits, is_accumulator}
 use Rattle.fx_code.specs.Code.{BareRow, Row, Code, IsWhole, OldIsThere, bare}
-use Rattle.fx_code.specs.Fits.{CodeFits, RowFits, ReadsFit}
-use Rattle.fx_code.specs.Limits.{start_fault, row_fault, output_fault, is_memory, term_count as code_count}
+use Rattle.fx_code.specs.Fits.{RowFits, ReadsFit}
+use Rattle.fx_code.specs.Limits.{start_fault, row_fault, is_memory, term_count as code_count}
 use Rattle.fx_code.specs.NetRows.{bare_at, bare_rows}
 use Rattle.fx_code.specs.declared.fault.ProgramFault.{ProgramFault}
-use Rattle.fx_code.specs.declared.limits.TheConstants.{CODE_TERMS}
 use Rattle.fx_code.specs.declared.term.CodeTerm.{CodeTerm}
 use Rattle.fx_code.proofs.Fitting.{start_passes, row_passes}
 use Rattle.fx_quant.specs.Design.{Quantised, sized, sized_rows, last_places, as_program, WidthsFit, DesignFits}

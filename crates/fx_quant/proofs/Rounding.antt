@@ -1,6 +1,6 @@
 -- Rounding to the nearest whole number, and odd parts.
-use Rattle.std.proofs.Common.{◌≡◌, ℕ, zero, suc, ◌+◌, ◌-◌, ◌*◌, ◌/◌, ◌%◌, ◌^◌, ◌<◌, ◌≤◌, refl, arith, sym, ap}
-use Rattle.std.proofs.Common.{◌∙◌, ◌≢◌, ◌||◌, false, lit<, unsigned_abs, nat_le}
+use Rattle.std.proofs.Common.{◌≡◌, ℕ, zero, suc, ◌+◌, ◌-◌, ◌*◌, ◌^◌, ◌<◌, ◌≤◌, refl, arith, ap}
+use Rattle.std.proofs.Common.{◌∙◌, ◌≢◌, false, lit<, unsigned_abs}
 use Rattle.std.proofs.Math.IntN.{ℤ, pos, negsuc, ◌+ℤ◌, ◌-ℤ◌, ◌*ℤ◌}
 use Rattle.std.proofs.Math.Nat.{pow-le-pow_right, mul-le-mul_left, mul-le-mul_right, pow-suc}
 use Rattle.std.proofs.lemmas.Bool.{or_parts}
@@ -13,8 +13,8 @@ use Rattle.fx_math.specs.Division.{floor_div}
 use Rattle.fx_math.proofs.Division.{floor_bound}
 use Rattle.fx_math.proofs.Orders.{not_le}
 use Rattle.fx_math.proofs.Rounding.{floor_parts}
-use Rattle.fx_nums.specs.Fraction.{Fraction, den_value}
-use Rattle.fx_quant.specs.Rounding.{rounded, zeros, odd_part}
+use Rattle.fx_nums.specs.Fraction.{den_value}
+use Rattle.fx_quant.specs.Rounding.{rounded}
 use Rattle.fx_quant.specs.Rows.{left_of, product_of, is_wide}
 use Rattle.fx_quant.specs.Laws.{RoundsToNearest}
 use Rattle.fx_quant.specs.declared.scaled.Scaled.{Scaled}

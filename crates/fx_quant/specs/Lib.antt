@@ -5,3 +5,4 @@ pub mod Positions
 pub mod Quantised
 pub mod Rounding
 pub mod Rows
+pub mod Widths

@@ -1,10 +1,9 @@
 -- An implicit form as integer rows.
-use Rattle.std.specs.Prelude.{ℕ, ◌+◌, ◌≤◌, Bool, true, false, ◌≡◌, IsTrue, List, length, replicate, All, ℤ, pos}
-use Rattle.std.specs.Prelude.{neg_ℤ, ◌-ℤ◌, ◌≤ℤ◌, unsigned_abs, take, ◌<◌, Result, Ok}
+use Rattle.std.specs.Prelude.{ℕ, ◌+◌, ◌≤◌, Bool, true, false, ◌≡◌, IsTrue, List, length, replicate, All, ℤ}
+use Rattle.std.specs.Prelude.{◌-ℤ◌, ◌≤ℤ◌, unsigned_abs, take, Result, Ok}
 use Rattle.fx_math.specs.Faults.{◌>>=◌}
 use Rattle.fx_math.specs.Words.{is_accumulator}
 use Rattle.fx_code.specs.Code.{BareRow}
-use Rattle.fx_code.specs.declared.limits.TheConstants.{CODE_TERMS}
 use Rattle.fx_net.specs.Net.{Net, empty_net}
 use Rattle.fx_net.specs.Rows.{put_rows}
 use Rattle.fx_sif.specs.Implicit.{Implicit, rows}

@@ -1,6 +1,6 @@
 -- The quantised rows of a net: each coefficient as an odd number, shifted to the left, over 2 to the power of the right
 -- shift of its row.
-use Rattle.std.specs.Prelude.{◌≡◌, All, length, false, ◌<◌, ◌≤◌, ℕ, zero, suc, ◌+◌, ◌-◌, ◌^◌, max, nat_lt}
+use Rattle.std.specs.Prelude.{◌≡◌, All, length, false, ◌<◌, ◌≤◌, ℕ, zero, suc, ◌+◌, ◌^◌, max, nat_lt}
 use Rattle.std.specs.Prelude.{nat_le, ◌==◌, ◌||◌, Bool, cond, ℤ, pos, ◌+ℤ◌, ◌-ℤ◌, ◌*ℤ◌, unsigned_abs, List, []}
 use Rattle.std.specs.Prelude.{◌∷◌, ◌++◌, map, Option, Some, None, Result, Ok, Err}
 use Rattle.std.specs.Int.{int_max}

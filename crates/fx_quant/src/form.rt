@@ -3,6 +3,7 @@
 ghost use Rattle.std.specs.Prelude.{◌≡◌, ◌<◌, ◌≤◌, ◌+◌, ◌++◌, length, map, take, All, IfOk, OnOk};
 ghost use Rattle.fx_math.specs.Answers.{Gives};
 ghost use Rattle.fx_net.specs.Tables.{net_of};
+ghost use Rattle.fx_quant.specs.Design.{DesignFits};
 ghost use Rattle.fx_quant.specs.Inside.{grid_of, row_of, rows_of};
 ghost use Rattle.fx_quant.specs.Positions.{grid, guarded};
 ghost use Rattle.fx_quant.specs.Quantised.{
@@ -23,9 +24,10 @@ use crate::fault::QuantFault;
 use crate::formats::{Formats, GREATEST_FRACTION, LARGEST_GUARD};
 use crate::row;
 use crate::scaled::Places;
+use fx_code::CODE_TERMS;
 use fx_eqs::PORTS;
 use fx_net::Net;
-use fx_sif::{FORM_ROWS, Sif};
+use fx_sif::{FORM_ROWS, Sif, forms_fit};
 use std::alloc::{AllocError, Global};
 
 // The low position of a row with a guard.
@@ -132,8 +134,9 @@ fn design_rows(
 /// which the row's low position is below that of the inputs. Coefficients are rounded to `fraction` places behind the
 /// point.
 ///
-/// Its error is the first fault, row by row, and `NoMemory` only where there is none.
-#[tactic(auto, using(crate::proofs::Faults::quantised_is, crate::proofs::Faults::quantised_fails, crate::proofs::RowByRow::rows_count))]
+/// Its error is the first fault, row by row, and `NoMemory` only where there is none. Where the form has at most
+/// `CODE_TERMS` entries, the design fits a program.
+#[tactic(auto, using(crate::proofs::Faults::quantised_is, crate::proofs::Faults::quantised_fails))]
 pub fn quantise_rows(
     alloc: Global,
     sif: &Sif,
@@ -147,7 +150,9 @@ pub fn quantise_rows(
     requires fraction { FractionFits fraction }
     ensures value { Gives is_memory (λ d. d) result (quantised sif.now formats guards.now fraction) }
     ensures sizes { IfOk result (HasSizes sif.now formats) }
+    ensures fits { IfOk result (λ d. length sif.now.entries ≤ CODE_TERMS → DesignFits d) }
 {
+    forms_fit(sif);
     let sizes = sif.sizes();
     let mut net: Net<FORM_ROWS> = Net::new(alloc)?;
     sif.put_net(&mut net, 0);
@@ -184,6 +189,7 @@ pub fn quantise(
     requires fraction { FractionFits fraction }
     ensures value { Gives is_memory (λ d. d) result (quantised sif.now formats (equal_guards sif.now guard) fraction) }
     ensures sizes { IfOk result (HasSizes sif.now formats) }
+    ensures fits { IfOk result (λ d. length sif.now.entries ≤ CODE_TERMS → DesignFits d) }
 {
     let sizes = sif.sizes();
     let count = usize::from(sizes.t) + usize::from(sizes.x);

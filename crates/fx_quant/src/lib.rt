@@ -12,6 +12,7 @@ mod row;
 mod scaled;
 #[cfg(test)]
 mod tests;
+mod widths;
 
 pub use design::Design;
 pub use fault::QuantFault;
@@ -20,4 +21,4 @@ pub use formats::{
     Formats, GREATEST_FRACTION, GREATEST_LOW, LARGEST_GUARD, LEAST_FRACTION, LEAST_LOW, LOWS_APART,
     ROUNDED_BITS, quantising_limits_are_these,
 };
-pub use laws::{coefficients_are_rounded_to_nearest, designs_fit};
+pub use laws::coefficients_are_rounded_to_nearest;

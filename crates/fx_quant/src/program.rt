@@ -118,9 +118,9 @@ impl Design {
         }
     }
 
-    /// The rows with these widths, 2 to 32 bits and at most those of the accumulators, as a program with inputs of these
-    /// widths. Put out are the last rows, so many, in their order. The accumulators have 16, 32 or 64 bits, and no fewer
-    /// than those that the design was made for.
+    /// The rows with these widths, 2 to 32 bits and at most those of the accumulators, as a program with inputs of
+    /// these widths. Put out are the last rows, so many, in their order. The accumulators have 16, 32 or 64 bits, and
+    /// no fewer than those that the design was made for.
     ///
     /// A design that fits is never refused: its error is want of memory.
 
@@ -135,7 +135,7 @@ impl Design {
         requires design { DesignFits self.now }
         requires widths { WidthsFit self.now accumulator input_widths.now widths.now }
         requires outputs { OutputsFit self.now outputs }
-        ensures value { IfOk result (λ p. p ≡ as_program self.now accumulator input_widths.now widths.now outputs) }
+        ensures ok { IfOk result (λ p. p ≡ as_program self.now accumulator input_widths.now widths.now outputs) }
         ensures rows { IfOk result (λ p. bare_rows p ≡ self.now.rows) }
         ensures whole { IfOk result (λ p. 1 ≤ outputs → IsWhole p) }
     {

@@ -118,7 +118,7 @@ fn add_terms(
 }
 
 // The terms of row i.
-#[tactic(auto, using(crate::proofs::Adding::three_parts, crate::proofs::Adding::three_small, crate::proofs::Adding::three_few))]
+#[tactic(auto, using(crate::proofs::Adding::three_parts, crate::proofs::Adding::three_few))]
 pub(crate) fn kept_terms(
     alloc: Global,
     net: &Net<FORM_ROWS>,

@@ -1,4 +1,4 @@
-ghost use Rattle.std.specs.Prelude.{◌≡◌, IfOk, [], ◌∷◌, pos};
+ghost use Rattle.std.specs.Prelude.{◌≡◌, IfOk, [], ◌∷◌, pos, length};
 
 use crate::{Formats, QuantFault, quantise, quantise_rows};
 use fx_code::{CodeTerm, Read};
@@ -52,7 +52,8 @@ fn formats(accumulator: u8) -> Formats
 
 // y(k) = u(k) + c y(k-1): the state holds the output before.
 fn first_form(alloc: Global, c: Frac) -> Result<Sif, Fail>
-    ensures { IfOk result (λ s. s.sizes ≡ record { t = 1; x = 1; u = 1; y = 1 }) }
+    ensures sizes { IfOk result (λ s. s.sizes ≡ record { t = 1; x = 1; u = 1; y = 1 }) }
+    ensures few { IfOk result (λ s. length s.entries ≡ 4) }
 {
     let one = Frac::one();
     let entries = [
@@ -112,5 +113,22 @@ fn a_tenth_and_its_faults(rt: HostRuntime) -> Result<(), Fail> {
     assert_eq!(rt; design.terms(1), [term(819, Read::Now(0), 0)].as_slice());
     let far = quantise(rt.alloc(), &form, formats(16), 0, 40).err();
     assert_eq!(rt; far, Some(QuantFault::ShiftRange(1)));
+    Ok(())
+}
+
+#[test]
+fn the_program_of_one_pole(rt: HostRuntime) -> Result<(), Fail> {
+    let form = first_form(rt.alloc(), decimal(5, 1))?;
+    let design = quantise(rt.alloc(), &form, formats(64), 0, 14)?;
+    let widths = design.widths(rt.alloc(), &[201, 127, 0, 200], &[16])?;
+    assert_eq!(rt; widths.as_slice(), [9, 8, 16].as_slice());
+    let program = design.program(rt.alloc(), 64, &[16], &widths, 1)?;
+    assert_eq!(rt; program.rows(), 3);
+    for i in 0..3 {
+        assert_eq!(rt; program.width(i), widths[i]);
+        assert_eq!(rt; program.shift(i), design.shift(i));
+        assert_eq!(rt; program.terms(i), design.terms(i));
+    }
+    assert_eq!(rt; program.outputs(), [2].as_slice());
     Ok(())
 }

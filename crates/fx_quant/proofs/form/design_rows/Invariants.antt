@@ -1,4 +1,4 @@
-use Rattle.std.proofs.Common.{◌≡◌, Result, Ok}
+use Rattle.std.proofs.Common.{◌≡◌, Ok}
 use Rattle.fx_net.specs.Tables.{net_of}
 use Rattle.fx_quant.specs.Inside.{grid_of, rows_of}
 use Rattle.fx_quant.specs.Rows.{kept_terms, quantised_row, first_rows}

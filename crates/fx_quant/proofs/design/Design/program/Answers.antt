@@ -1,7 +1,6 @@
-use Rattle.std.proofs.Common.{◌≡◌, ◌≤◌, ◌∙◌, ap, length, arith, subst, sym}
+use Rattle.std.proofs.Common.{◌∙◌, ap, length, arith, subst, sym}
 use Rattle.fx_code.specs.Code.{IsWhole}
 use Rattle.fx_code.specs.NetRows.{bare_rows}
-use Rattle.fx_quant.specs.Design.{as_program}
 use Rattle.fx_quant.proofs.Programs.{sized_count, program_is, rows_are, is_whole}
 use Rattle.fx_quant.proofs.design.Design.program.Goals as goal
 
@@ -12,8 +11,8 @@ add_outputs-requires-clause-there c =
     ∙ sized_count c.args.widths.now d.rows (length d.rows) in
     omega (arith, count, c.requires.outputs.there)
 
-pub returns-clause-value : goal.returns-clause-value
-returns-clause-value c =
+pub returns-clause-ok : goal.returns-clause-ok
+returns-clause-ok c =
     program_is c.args.self.now c.args.accumulator c.args.input_widths.now c.args.widths.now c.args.outputs
     c.in_ok-program.program c.add_rows.new.program c.add_outputs.new.program c.in_ok-program.ensures
     c.in_ok-add_rows.ensures c.in_ok-add_outputs.ensures
@@ -21,11 +20,11 @@ returns-clause-value c =
 pub returns-clause-rows : goal.returns-clause-rows
 returns-clause-rows c =
     let d = c.args.self.now in
-    ap bare_rows (returns-clause-value c)
+    ap bare_rows (returns-clause-ok c)
     ∙ rows_are d c.args.accumulator c.args.input_widths.now c.args.widths.now c.args.outputs
 
 pub returns-clause-whole : goal.returns-clause-whole
 returns-clause-whole c =
-    λ some. subst IsWhole (sym (returns-clause-value c))
+    λ some. subst IsWhole (sym (returns-clause-ok c))
     (is_whole c.args.self.now c.args.accumulator c.args.input_widths.now c.args.widths.now c.args.outputs
     c.requires.design some)
