@@ -1,0 +1,6 @@
+mod FirstFailures
+mod Outputs
+mod Padding
+mod Places
+mod Sweeps
+mod Tests

@@ -1,0 +1,7 @@
+use Rattle.std.proofs.Common.{◌≡◌, None}
+use Rattle.fx_block.specs.Failure.{first_of}
+use Rattle.fx_check.proofs.Tests.{error}
+use Rattle.fx_check.proofs.bounds.test_errors.Given as goal
+
+abbrev pub invariant-loop-o : goal.invariant-loop-o
+invariant-loop-o l = first_of l.o (error l.f l.p l.c) ≡ None

@@ -1,0 +1,163 @@
+//! The judgement: form, sweeps, and what the sweeps are compared with.
+
+ghost use Rattle.std.specs.Prelude.{◌≡◌, ◌+◌, ◌^◌, ◌<◌, ◌≤◌, OnOk, length};
+ghost use Rattle.std.specs.Option.{option_or};
+ghost use Rattle.fx_block.specs.Failure.{
+  bound_failure,
+  error_failure,
+  first_failure,
+  form_failure,
+  range_failure,
+  sum_failure,
+  wanted_failure,
+  word_failure,
+};
+ghost use Rattle.fx_block.specs.Passes.{row_count};
+ghost use Rattle.fx_check.specs.Targets.{HasTotals, lengths_of, padded_net, target_count, targets_of};
+ghost use Rattle.fx_check.specs.Verdict.{failure_of, told_by};
+ghost use Rattle.fx_code.specs.Code.{IsWhole};
+ghost use Rattle.fx_net.specs.Tables.{net_of};
+ghost use Rattle.fx_sweep.specs.Filled.{Filled};
+
+use crate::bounds::{test_bounds, test_errors, test_sums, test_wanted_errors, test_words};
+use crate::form::test_form;
+use crate::numbers::{input_bounds, row_bounds};
+use crate::refusal::Refusal;
+use crate::targets::{MOST_TARGETS, lengths, target_count, targets};
+use crate::verdict::Verdict;
+use fx_block::Inequality;
+use fx_cert::{Cert, certificates_fit};
+use fx_code::{Program, programs_fit};
+use fx_eqs::systems_fit;
+use fx_files::{Filter, filters_fit};
+use fx_net::{LARGEST_NET, Net, other_rows_stay};
+use fx_nums::OPERAND_BITS;
+use fx_sweep::{Sweep, Totals, empty_rows_change_nothing, totals_fit};
+use std::alloc::{AllocError, Global};
+
+/// What it takes to judge programs and filters of together at most N rows. N is 1 to `LARGEST_NET`.
+#[derive(Drop)]
+pub struct Judge<const N: usize> {
+    net: Net<N>,
+    sweep: Sweep<N>,
+    totals: Totals<N>,
+}
+
+// The rows of a program and, behind them, the expanded rows of a filter in a net.
+fn put_joint<const N: usize>(net: &mut Net<N>, f: &Filter, p: &Program)
+    requires whole { IsWhole p.now }
+    requires rows { row_count f.now p.now ≤ N }
+    ensures { net_of net.new ≡ padded_net N f.now p.now }
+{
+    other_rows_stay();
+    net.clear();
+    p.put_net(net, 0);
+    net.put_eqs(f.eqs(), p.rows());
+}
+
+impl<const N: usize> Judge<N> {
+    /// A judge of any programs and filters of so many rows. Its error is want of memory.
+    pub fn prepare(alloc: Global) -> Result<Judge<N>, AllocError>
+        requires low { 1 ≤ N }
+        requires high { N ≤ LARGEST_NET }
+    {
+        Ok(Judge {
+            net: Net::new(alloc)?,
+            sweep: Sweep::new(alloc)?,
+            totals: Totals::new(alloc)?,
+        })
+    }
+
+    // Sweeps all targets of what has the same form.
+    fn sweep(&mut self, f: &Filter, p: &Program, c: &Cert) -> Result<(), Refusal>
+        requires whole { IsWhole p.now }
+        requires room { row_count f.now p.now ≤ N }
+        requires outputs { length p.now.outputs ≡ length f.now.outputs }
+        requires rows { length c.now.bounds ≡ row_count f.now p.now }
+        requires errors { length c.now.errors ≡ length f.now.outputs }
+        ensures told { told_by result ≡ range_failure f.now p.now c.now }
+        ensures filled { OnOk result (Filled self.new.totals (padded_net N f.now p.now) (targets_of f.now p.now)
+            (lengths_of f.now p.now c.now)) }
+    {
+        filters_fit(f);
+        systems_fit(f.eqs());
+        programs_fit(p);
+        certificates_fit(c);
+        empty_rows_change_nothing();
+        put_joint(&mut self.net, f, p);
+        let count = target_count(f, p);
+        let targets = targets(f, p);
+        let lengths = lengths(f, p, c);
+        match self.totals.fill(
+            &mut self.sweep,
+            &self.net,
+            &targets[..count],
+            &lengths[..count],
+        ) {
+            Ok(()) => Ok(()),
+            Err(range) => Err(Refusal {
+                which: Inequality::Sweep(range.target, range.at.place),
+                left: range.at.value,
+                right: 1 << OPERAND_BITS,
+            }),
+        }
+    }
+
+    // The totals of all targets that were swept.
+    fn totals(&self, f: &Filter, p: &Program, c: &Cert) -> [i128; MOST_TARGETS]
+        requires whole { IsWhole p.now }
+        requires room { row_count f.now p.now ≤ N }
+        requires outputs { length p.now.outputs ≡ length f.now.outputs }
+        requires rows { length c.now.bounds ≡ row_count f.now p.now }
+        requires filled { Filled self.now.totals (padded_net N f.now p.now) (targets_of f.now p.now)
+            (lengths_of f.now p.now c.now) }
+        ensures { HasTotals f.now p.now c.now result }
+    {
+        filters_fit(f);
+        systems_fit(f.eqs());
+        programs_fit(p);
+        empty_rows_change_nothing();
+        totals_fit(&self.totals);
+        let bounds = input_bounds(f);
+        let x: [i64; N] = row_bounds(c);
+        let mut totals = [0; MOST_TARGETS];
+        for t in 0..target_count(f, p) {
+            totals[t] = self.totals.total(t, &bounds, &x);
+        }
+        totals
+    }
+
+    // All inequalities, in their order.
+    fn test(&mut self, f: &Filter, p: &Program, c: &Cert) -> Result<(), Refusal>
+        requires whole { IsWhole p.now }
+        requires room { row_count f.now p.now ≤ N }
+        ensures { told_by result ≡ first_failure f.now p.now c.now }
+    {
+        test_form(f, p, c)?;
+        self.sweep(f, p, c)?;
+        let totals = self.totals(f, p, c);
+        test_bounds(f, p, c, &totals)?;
+        test_words(p, c)?;
+        test_sums(p, c)?;
+        test_errors(f, p, c, &totals)?;
+        test_wanted_errors(f, c)
+    }
+
+    /// Accepted exactly where all inequalities hold of a filter, a whole program and a certificate; else the first
+    /// that fails, with both sides. The rows of the program and the expanded rows of the filter are together at most N.
+    /// It takes no memory.
+    pub fn verdict(&mut self, f: &Filter, p: &Program, c: &Cert) -> Verdict
+        requires whole { IsWhole p.now }
+        requires room { row_count f.now p.now ≤ N }
+        ensures { failure_of result ≡ first_failure f.now p.now c.now }
+    {
+        match self.test(f, p, c) {
+            Ok(()) => Verdict::Accepted,
+            Err(refusal) => Verdict::Refused {
+                which: refusal.which,
+                left: refusal.left,
+                right: refusal.right,
+            },
+        }
+    }
+}

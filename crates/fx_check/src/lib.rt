@@ -1,0 +1,15 @@
+//! Whether a certificate suffices for a program and a filter: the first inequality that fails, with both sides.
+#![tactic(auto)]
+
+mod bounds;
+mod form;
+mod judging;
+mod numbers;
+mod refusal;
+mod sizes;
+mod targets;
+mod verdict;
+
+pub use judging::Judge;
+pub use sizes::judge;
+pub use verdict::Verdict;
