@@ -1,7 +1,7 @@
 -- Texts without a control byte: numbers, decimals, and the parts of a line.
 use Rattle.std.proofs.Common.{◌≡◌, ◌≢◌, ◌≤◌, ◌<◌, ◌+◌, ◌-◌, ◌/◌, ◌%◌, ◌==◌, ◌∙◌, ℕ, zero, suc, ℤ, pos, negsuc}
 use Rattle.std.proofs.Common.{Bool, true, false, nat_lt, List, [], ◌∷◌, ◌++◌, length, codes, decimal, refl}
-use Rattle.std.proofs.Common.{arith}
+use Rattle.std.proofs.Common.{ap, append_assoc, arith, sym}
 use Rattle.std.specs.Prelude.{replicate}
 use Rattle.std.proofs.lemmas.Bool.{cond_both, le-ltb, ne_eqb}
 use Rattle.std.proofs.lemmas.List.Folds.{list_all-append}
@@ -10,6 +10,8 @@ use Rattle.std.specs.List.{list_all}
 use Rattle.fx_decimal.specs.Printed.{padded, places_text, written, up_text, down_text}
 use Rattle.fx_nums.specs.Signs.{digit_zero, minus_text}
 use Rattle.fx_lines.specs.Laws.{is_printed, IsLine}
+use Rattle.fx_lines.specs.Verdict.{sides_line, up_part}
+use Rattle.fx_lines.specs.declared.decimals.TheConstants.{PLACES}
 
 -- ---- texts of printed bytes
 
@@ -77,6 +79,9 @@ pub up_printed : (v : ℤ) (k : ℕ) → Printed (up_text v k)
 unfolding up_text
 up_printed v k = written_printed _ _ _ k
 
+pub part_printed : (word : List ℕ) (v : ℤ) → Printed word → Printed (up_part word v)
+part_printed word v printed = both_printed word (up_text v PLACES) printed (up_printed v PLACES)
+
 pub down_printed : (v : ℤ) (k : ℕ) → Printed (down_text v k)
 unfolding down_text
 down_printed v k = written_printed _ _ _ k
@@ -90,16 +95,10 @@ line_of front printed = record { front = front; ends = refl; printed = printed }
 pub more : (front part : List ℕ) → Printed front → Printed part → Printed (front ++ codes " " ++ part)
 more front part first second = both_printed (front ++ codes " ") part (both_printed front (codes " ") first refl) second
 
--- ---- words, and one number, two or three behind them
+-- ---- words, and one number or three behind them
 
 pub number_line : (words part : List ℕ) → Printed words → Printed part → IsLine (words ++ part ++ codes "\n")
 number_line words part printed first = line_of (words ++ part) (both_printed words part printed first)
-
-pub numbers_line : (words part other : List ℕ) → Printed words → Printed part → Printed other →
-    IsLine (words ++ part ++ codes " " ++ other ++ codes "\n")
-numbers_line words part other printed first second =
-    line_of (words ++ part ++ codes " " ++ other)
-    (more (words ++ part) other (both_printed words part printed first) second)
 
 pub three_line : (words part other last : List ℕ) → Printed words → Printed part → Printed other → Printed last →
     IsLine (words ++ part ++ codes " " ++ other ++ codes " " ++ last ++ codes "\n")
@@ -107,3 +106,24 @@ three_line words part other last printed first second third =
     line_of (words ++ part ++ codes " " ++ other ++ codes " " ++ last)
     (more (words ++ part ++ codes " " ++ other) last
     (more (words ++ part) other (both_printed words part printed first) second) third)
+
+-- five pieces behind words, put together one by one or at once
+each_behind : (w a b c d e : List ℕ) → w ++ (a ++ b ++ c ++ d ++ e) ≡ w ++ a ++ b ++ c ++ d ++ e
+each_behind w a b c d e =
+    let two : w ++ (a ++ b) ≡ w ++ a ++ b = sym (append_assoc w a b) in
+    let three : w ++ (a ++ b ++ c) ≡ w ++ a ++ b ++ c =
+    sym (append_assoc w (a ++ b) c) ∙ ap (λ t. t ++ c) two in
+    let four : w ++ (a ++ b ++ c ++ d) ≡ w ++ a ++ b ++ c ++ d =
+    sym (append_assoc w (a ++ b ++ c) d) ∙ ap (λ t. t ++ d) three in
+    sym (append_assoc w (a ++ b ++ c ++ d) e) ∙ ap (λ t. t ++ e) four
+
+-- the sides of a comparison behind words
+pub sides_are_line : (words : List ℕ) (left right : ℤ) → Printed words → IsLine (words ++ sides_line left right)
+sides_are_line words left right printed =
+    let front = words ++ codes " " ++ signed_decimal left ++ codes " " ++ signed_decimal right in
+    record {
+      front = front;
+      ends = each_behind words (codes " ") (signed_decimal left) (codes " ") (signed_decimal right) (codes "\n");
+      printed = more (words ++ codes " " ++ signed_decimal left) (signed_decimal right)
+          (more words (signed_decimal left) printed (signed_printed left)) (signed_printed right);
+    }

@@ -1,8 +1,6 @@
 -- The lines of certificates and verdicts have no control byte before their line feed.
 use Rattle.std.proofs.Common.{◌+◌, ℕ, ℤ, List, [], ◌∷◌, ◌++◌, length, codes, decimal, refl}
-use Rattle.std.specs.Fmt.{signed_decimal}
 use Rattle.fx_cert.specs.declared.fault.CertFault.TheVariants.{Version, Line, Number, Count, AfterEnd, NoMemory}
-use Rattle.fx_decimal.specs.Printed.{up_text}
 use Rattle.fx_sweep.specs.declared.target.Place.{Place}
 use Rattle.fx_sweep.specs.declared.target.Place.TheVariants.{Weight, Gain, Input, Rest}
 use Rattle.fx_block.specs.declared.inequality.Inequality.{Inequality}
@@ -10,10 +8,10 @@ use Rattle.fx_block.specs.declared.inequality.Inequality.TheVariants.{Inputs, Ou
 use Rattle.fx_block.specs.declared.inequality.Inequality.TheVariants.{OutputWidth, Rows, Errors, Sweep, Bound}
 use Rattle.fx_block.specs.declared.inequality.Inequality.TheVariants.{Word, Sum, Error, Wanted}
 use Rattle.fx_lines.specs.Laws.{AcceptedLines, AreLines, CertFaultLine, IsLine, RefusedLine}
-use Rattle.fx_lines.specs.Verdict.{error_line, error_lines, inequality_text, place_text}
-use Rattle.fx_lines.specs.declared.decimals.TheConstants.{PLACES}
-use Rattle.fx_lines.proofs.PrintedParts.{Printed, both_printed, decimal_printed, signed_printed, up_printed, line_of}
-use Rattle.fx_lines.proofs.PrintedParts.{more, number_line, numbers_line, three_line}
+use Rattle.fx_block.specs.Failure.{Failure}
+use Rattle.fx_lines.specs.Verdict.{error_line, error_lines, inequality_text, place_text, up_part}
+use Rattle.fx_lines.proofs.PrintedParts.{Printed, both_printed, decimal_printed, part_printed, sides_are_line}
+use Rattle.fx_lines.proofs.PrintedParts.{line_of, more, number_line, three_line}
 
 -- ---- faults of certificates
 
@@ -56,17 +54,22 @@ inequality_printed (Sum i) = numbered (codes "I5 row ") i refl
 inequality_printed (Error o) = numbered (codes "I6 output ") o refl
 inequality_printed (Wanted o) = numbered (codes "I7 output ") o refl
 
+-- what stands before its sides
+front_printed : (failure : Failure) → Printed (codes "refused " ++ inequality_text failure.which)
+front_printed failure =
+    both_printed (codes "refused ") (inequality_text failure.which) refl (inequality_printed failure.which)
+
 pub refused : RefusedLine
-refused failure =
-    three_line (codes "refused ") (inequality_text failure.which) (signed_decimal failure.left)
-    (signed_decimal failure.right) refl (inequality_printed failure.which) (signed_printed failure.left)
-    (signed_printed failure.right)
+refused failure = sides_are_line (codes "refused " ++ inequality_text failure.which) failure.left failure.right
+    (front_printed failure)
 
 -- ---- accepted
 
 error_is_line : (o : ℕ) (e : ℤ) → IsLine (error_line o e)
 error_is_line o e =
-    numbers_line (codes "error ") (decimal o) (up_text e PLACES) refl (decimal_printed o) (up_printed e PLACES)
+    line_of (codes "error " ++ decimal o ++ up_part (codes " ") e)
+    (both_printed (codes "error " ++ decimal o) (up_part (codes " ") e) (numbered (codes "error ") o refl)
+    (part_printed (codes " ") e refl))
 
 errors_are_lines : (o : ℕ) (errors : List ℤ) → AreLines (length errors) (error_lines o errors)
 errors_are_lines o [] = refl

@@ -1,8 +1,11 @@
 pub mod CertFault
 pub mod CodeFault
+pub mod Design
 pub mod Filter
 pub mod FilterFault
 pub mod Laws
+pub mod Peaks
+pub mod Report
 pub mod SampleFault
 pub mod UnknownKey
 pub mod Verdict

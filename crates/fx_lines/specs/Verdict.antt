@@ -11,11 +11,15 @@ use Rattle.fx_block.specs.declared.inequality.Inequality.TheVariants.{OutputWidt
 use Rattle.fx_block.specs.declared.inequality.Inequality.TheVariants.{Word, Sum, Error, Wanted}
 use Rattle.fx_lines.specs.declared.decimals.TheConstants.{PLACES}
 
+-- a word, and v / 2 ^ 64 rounded up in the last place
+abbrev pub up_part : List ℕ → ℤ → List ℕ
+up_part word v = word ++ up_text v PLACES
+
 -- ---- an accepted certificate
 
--- e / 2 ^ 64 steps of output o, rounded up in the last place
+-- e / 2 ^ 64 steps of output o
 abbrev pub error_line : ℕ → ℤ → List ℕ
-error_line o e = codes "error " ++ decimal o ++ codes " " ++ up_text e PLACES ++ codes "\n"
+error_line o e = codes "error " ++ decimal o ++ up_part (codes " ") e ++ codes "\n"
 
 -- the errors from output o on
 abbrev pub error_lines : ℕ → List ℤ → List ℕ
@@ -50,11 +54,13 @@ inequality_text (Sum i) = codes "I5 row " ++ decimal i
 inequality_text (Error o) = codes "I6 output " ++ decimal o
 inequality_text (Wanted o) = codes "I7 output " ++ decimal o
 
+-- the end of a line: what is there, and the limit that it passes or the number that is wanted
+abbrev pub sides_line : ℤ → ℤ → List ℕ
+sides_line left right = codes " " ++ signed_decimal left ++ codes " " ++ signed_decimal right ++ codes "\n"
+
 -- the first inequality that fails, its left side and its right side
 abbrev pub refused_line : Failure → List ℕ
-refused_line failure =
-    codes "refused " ++ inequality_text failure.which ++ codes " " ++ signed_decimal failure.left ++ codes " "
-    ++ signed_decimal failure.right ++ codes "\n"
+refused_line failure = codes "refused " ++ inequality_text failure.which ++ sides_line failure.left failure.right
 
 -- ---- either
 

@@ -1,8 +1,7 @@
 // Decimals of numbers at the scale 2^-64.
 
 ghost use Rattle.std.specs.Prelude.{◌≡◌, ◌++◌, ◌<◌, ◌^◌, unsigned_abs, OnOk};
-ghost use Rattle.fx_decimal.specs.Printed.{up_text};
-ghost use Rattle.fx_lines.specs.declared.decimals.TheConstants.{PLACES};
+ghost use Rattle.fx_lines.specs.Verdict.{up_part};
 
 use crate::pieces::put_word;
 use fx_decimal::print_up;
@@ -20,7 +19,7 @@ pub fn places_are_these()
 #[tactic(auto, using(crate::proofs::Joined::regrouped))]
 pub(crate) fn put_up(text: &mut Vec<u8>, word: &str, v: i128) -> Result<(), AllocError>
     requires { unsigned_abs v < 2 ^ 126 }
-    ensures { OnOk result (text.new.items ≡ text.old.items ++ word.now ++ up_text v PLACES) }
+    ensures { OnOk result (text.new.items ≡ text.old.items ++ up_part word.now v) }
 {
     put_word(text, word)?;
     text.extend_from_slice(print_up(v, PLACES).bytes())

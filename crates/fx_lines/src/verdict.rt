@@ -1,8 +1,8 @@
 // The lines of a verdict.
 
-ghost use Rattle.std.specs.Prelude.{◌≡◌, ◌++◌, IfOk, OnOk};
+ghost use Rattle.std.specs.Prelude.{◌≡◌, ◌++◌, codes, IfOk, OnOk};
+ghost use Rattle.std.specs.Fmt.{decimal};
 ghost use Rattle.fx_cert.specs.Certificate.{IsError};
-ghost use Rattle.fx_block.specs.declared.inequality.Inequality.TheVariants.{Sweep};
 ghost use Rattle.fx_lines.specs.Laws.{AcceptedLines, RefusedLine};
 ghost use Rattle.fx_lines.specs.Verdict.{
   accepted_lines,
@@ -11,6 +11,7 @@ ghost use Rattle.fx_lines.specs.Verdict.{
   inequality_text,
   place_text,
   refused_line,
+  sides_line,
 };
 
 use crate::decimals::put_up;
@@ -63,12 +64,18 @@ pub(crate) fn put_place(text: &mut Vec<u8>, place: Place) -> Result<(), AllocErr
     }
 }
 
-// A target, and a number of its sweep.
+// A word, a target, and a number of its sweep.
 #[tactic(auto, using(crate::proofs::Joined::regrouped))]
-fn put_sweep(text: &mut Vec<u8>, target: u8, place: Place) -> Result<(), AllocError>
-    ensures { OnOk result (text.new.items ≡ text.old.items ++ inequality_text (Sweep target place)) }
+pub(crate) fn put_target(
+    text: &mut Vec<u8>,
+    word: &str,
+    target: u8,
+    place: Place,
+) -> Result<(), AllocError>
+    ensures { OnOk result (text.new.items
+        ≡ text.old.items ++ (word.now ++ decimal target ++ codes " " ++ place_text place)) }
 {
-    put_field(text, "I2 target ", target)?;
+    put_field(text, word, target)?;
     put_word(text, " ")?;
     put_place(text, place)
 }
@@ -85,13 +92,38 @@ fn put_inequality(text: &mut Vec<u8>, which: Inequality) -> Result<(), AllocErro
         Inequality::OutputWidth(o) => put_field(text, "I1 output ", o),
         Inequality::Rows => put_word(text, "I1 rows"),
         Inequality::Errors => put_word(text, "I1 errors"),
-        Inequality::Sweep(target, place) => put_sweep(text, target, place),
+        Inequality::Sweep(target, place) => put_target(text, "I2 target ", target, place),
         Inequality::Bound(i) => put_field(text, "I3 row ", i),
         Inequality::Word(i) => put_field(text, "I4 row ", i),
         Inequality::Sum(i) => put_field(text, "I5 row ", i),
         Inequality::Error(o) => put_field(text, "I6 output ", o),
         Inequality::Wanted(o) => put_field(text, "I7 output ", o),
     }
+}
+
+// What is there, and the limit that it passes or the number that is wanted.
+#[tactic(auto, using(crate::proofs::Joined::regrouped))]
+fn put_sides(text: &mut Vec<u8>, left: i128, right: i128) -> Result<(), AllocError>
+    ensures { OnOk result (text.new.items ≡ text.old.items ++ sides_line left right) }
+{
+    put_field(text, " ", left)?;
+    put_field(text, " ", right)?;
+    put_word(text, "\n")
+}
+
+// The same behind a word and the number of a row or an output.
+#[tactic(auto, using(crate::proofs::Joined::regrouped))]
+pub(crate) fn put_compared(
+    text: &mut Vec<u8>,
+    word: &str,
+    place: u8,
+    left: i128,
+    right: i128,
+) -> Result<(), AllocError>
+    ensures { OnOk result (text.new.items ≡ text.old.items ++ (word.now ++ decimal place ++ sides_line left right)) }
+{
+    put_field(text, word, place)?;
+    put_sides(text, left, right)
 }
 
 /// The line of a refused certificate: the first inequality that fails, with its left and its right side.
@@ -105,9 +137,7 @@ pub fn refused_line(
 {
     let mut text = Vec::from_slice(alloc, b"refused ")?;
     put_inequality(&mut text, which)?;
-    put_field(&mut text, " ", left)?;
-    put_field(&mut text, " ", right)?;
-    put_word(&mut text, "\n")?;
+    put_sides(&mut text, left, right)?;
     Ok(text)
 }
 

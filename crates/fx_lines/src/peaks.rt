@@ -1,0 +1,128 @@
+// The lines of peak gains, and of lengths that do not do.
+
+ghost use Rattle.std.specs.Prelude.{◌≡◌, ◌++◌, OnOk};
+ghost use Rattle.fx_lines.specs.Peaks.{
+  bounds_line,
+  gain_line,
+  length_line,
+  peak_lines,
+  range_line,
+  words_text,
+  worst_line,
+};
+
+use crate::decimals::{PLACES, put_up};
+use crate::pieces::{put_field, put_word};
+use crate::verdict::{put_compared, put_target};
+use fx_block::{Least, LengthWhy};
+use fx_decimal::print_down;
+use fx_nums::Iv;
+use fx_sweep::TargetRange;
+use std::alloc::AllocError;
+
+// How far an input can drive an output.
+#[tactic(auto, using(crate::proofs::Joined::regrouped))]
+fn put_gain(text: &mut Vec<u8>, output: usize, input: usize, gain: Iv) -> Result<(), AllocError>
+    ensures { OnOk result (text.new.items ≡ text.old.items ++ gain_line output input gain) }
+{
+    put_field(text, "gain ", output)?;
+    put_field(text, " ", input)?;
+    put_word(text, " ")?;
+    text.extend_from_slice(print_down(gain.lo(), PLACES).bytes())?;
+    put_up(text, " ", gain.hi())?;
+    put_word(text, "\n")
+}
+
+// Words, each behind a space.
+fn put_words(text: &mut Vec<u8>, words: &[i64]) -> Result<(), AllocError>
+    ensures { OnOk result (text.new.items ≡ text.old.items ++ words_text words.now) }
+{
+    for word in words {
+        put_field(text, " ", *word)?;
+    }
+    Ok(())
+}
+
+// The words of an input that drive an output the furthest.
+#[tactic(auto, using(crate::proofs::Joined::regrouped))]
+fn put_worst(
+    text: &mut Vec<u8>,
+    output: usize,
+    input: usize,
+    words: &[i64],
+) -> Result<(), AllocError>
+    ensures { OnOk result (text.new.items ≡ text.old.items ++ worst_line output input words.now) }
+{
+    put_field(text, "worst ", output)?;
+    put_field(text, " ", input)?;
+    put_words(text, words)?;
+    put_word(text, "\n")
+}
+
+/// Puts behind a text the lines of the gain from an input to an output: its ends in input steps with nine places,
+/// rounded outwards in the last, and the words of the input that drive the output the furthest, in the order of time.
+#[tactic(auto, using(crate::proofs::Joined::regrouped))]
+pub fn put_peak(
+    text: &mut Vec<u8>,
+    output: usize,
+    input: usize,
+    gain: Iv,
+    words: &[i64],
+) -> Result<(), AllocError>
+    ensures { OnOk result (text.new.items ≡ text.old.items ++ peak_lines output input gain words.now) }
+{
+    put_gain(text, output, input, gain)?;
+    put_worst(text, output, input, words)
+}
+
+// A target whose sweep meets a range, and the number there.
+#[tactic(auto, using(crate::proofs::Joined::regrouped))]
+pub(crate) fn put_range(text: &mut Vec<u8>, range: TargetRange) -> Result<(), AllocError>
+    ensures { OnOk result (text.new.items ≡ text.old.items ++ range_line range) }
+{
+    put_target(text, " range target ", range.target, range.at.place)?;
+    put_field(text, " ", range.at.value)?;
+    put_word(text, "\n")
+}
+
+// How raises of bounds end.
+pub(crate) fn put_bounds(text: &mut Vec<u8>, bounds: Least) -> Result<(), AllocError>
+    ensures { OnOk result (text.new.items ≡ text.old.items ++ bounds_line bounds) }
+{
+    match bounds {
+        Least::Rest => put_word(text, "\n"),
+        Least::Over { row, value, cap } => {
+            put_compared(text, " over row ", row, value, i128::from(cap))
+        }
+        Least::Slow { row, before, after } => {
+            put_compared(
+                text,
+                " slow row ",
+                row,
+                i128::from(before),
+                i128::from(after),
+            )
+        }
+    }
+}
+
+/// Puts behind a text the line of a length that does not do, in moments; the input, whose bounds do not come to rest,
+/// is named with bounds alone.
+#[tactic(auto, using(crate::proofs::Joined::regrouped))]
+pub fn put_length(
+    text: &mut Vec<u8>,
+    length: u16,
+    input: u8,
+    why: LengthWhy,
+) -> Result<(), AllocError>
+    ensures { OnOk result (text.new.items ≡ text.old.items ++ length_line length input why) }
+{
+    put_field(text, "length ", length)?;
+    match why {
+        LengthWhy::Range(range) => put_range(text, range),
+        LengthWhy::Bounds(bounds) => {
+            put_field(text, " input ", input)?;
+            put_bounds(text, bounds)
+        }
+    }
+}
