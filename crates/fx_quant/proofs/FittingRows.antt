@@ -1,9 +1,9 @@
 -- The rows of a design are within the limits of a program.
-use Rattle.std.proofs.Common.{◌≡◌, ℕ, zero, suc, ◌+◌, ◌^◌, ◌<◌, ◌≤◌, true, false, eqb}
-use Rattle.std.proofs.Common.{List, [], ◌∷◌, ◌++◌, map, All, None, refl, arith, ap, unsigned_abs, nat_lt}
+use Rattle.std.proofs.Common.{◌≡◌, ℕ, zero, suc, ◌+◌, ◌^◌, ◌<◌, ◌≤◌, ◌≢◌, true, false, eqb}
+use Rattle.std.proofs.Common.{List, [], ◌∷◌, ◌++◌, map, All, None, refl, arith, sym, ap, ◌∙◌, unsigned_abs, nat_lt}
 use Rattle.std.proofs.Math.IntN.{ℤ}
 use Rattle.std.specs.List.{IsDistinct, list_any, AllByRecursion}
-use Rattle.std.proofs.lemmas.Bool.{or_parts, ltb-false, cond_both, false_from_ne_true, eqb-true}
+use Rattle.std.proofs.lemmas.Bool.{or_parts, ltb-false, cond_both, false_from_ne_true, eqb-true, eq-eqb, true≢false}
 use Rattle.std.proofs.lemmas.List.Elements.{All-nil, All-cons, All-head, All-tail, All-append, All-map}
 use Rattle.fx_math.proofs.Faults.{if_none}
 use Rattle.fx_math.proofs.Orders.{not_le}
@@ -67,26 +67,37 @@ bare_fits accumulator i ks e =
 
 -- ---- what is read
 
--- what holds of each term from the first sources of one kind
+-- how many sources of each kind a row may read
+abbrev pub count_of : ℕ → ℕ → ℕ → Which → ℕ
+count_of rows inputs i NowTable = i
+count_of rows inputs i OldTable = rows
+count_of rows inputs i InTable = inputs
+
+-- what holds of each term, with a rounded coefficient that is not 0, from the first sources of one kind
 pub each_kept : (P : Scaled → Type 0) (g : Grid) (net : Net) (i : ℕ) (which : Which) (n : ℕ) →
-    ((j : ℕ) (c : ℤ) → j < n → P (scaled g i (read which j) c)) → All P (kept_of g net i which n)
+    ((j : ℕ) → j < n → unsigned_abs (rounded g.fraction (coefficients net which i j)) ≢ 0 →
+    P (scaled g i (read which j) (rounded g.fraction (coefficients net which i j)))) →
+    All P (kept_of g net i which n)
 each_kept P g net i which zero h = All-nil P
 each_kept P g net i which (suc n) h =
     let c : ℤ = rounded g.fraction (coefficients net which i n) in
     All-append P (kept_of g net i which n) (kept g i (read which n) (coefficients net which i n))
-    (each_kept P g net i which n (λ j c l. h j c (omega (arith, l))))
+    (each_kept P g net i which n (λ j l. h j (omega (arith, l))))
     (cond_both (eqb (unsigned_abs c) 0) [] (scaled g i (read which n) c ∷ []) (All P) (λ e. All-nil P)
-    (λ e. All-cons P (scaled g i (read which n) c) [] (h n c (omega arith)) (All-nil P)))
+    (λ e. All-cons P (scaled g i (read which n) c) []
+    (h n (omega arith) (λ z. let same = eq-eqb (unsigned_abs c) 0 z in true≢false (sym same ∙ e))) (All-nil P)))
 
 -- what holds of each term of a row
 pub each_term : (P : Scaled → Type 0) (g : Grid) (net : Net) (rows inputs i : ℕ) →
-    ((j : ℕ) (c : ℤ) → j < i → P (scaled g i (Now j) c)) → ((j : ℕ) (c : ℤ) → j < rows → P (scaled g i (Old j) c)) →
-    ((j : ℕ) (c : ℤ) → j < inputs → P (scaled g i (In j) c)) → All P (kept_terms g net rows inputs i)
-each_term P g net rows inputs i now old input =
+    ((which : Which) (j : ℕ) → j < count_of rows inputs i which →
+    unsigned_abs (rounded g.fraction (coefficients net which i j)) ≢ 0 →
+    P (scaled g i (read which j) (rounded g.fraction (coefficients net which i j)))) →
+    All P (kept_terms g net rows inputs i)
+each_term P g net rows inputs i h =
     All-append P (kept_of g net i NowTable i ++ kept_of g net i OldTable rows) (kept_of g net i InTable inputs)
     (All-append P (kept_of g net i NowTable i) (kept_of g net i OldTable rows)
-    (each_kept P g net i NowTable i now) (each_kept P g net i OldTable rows old))
-    (each_kept P g net i InTable inputs input)
+    (each_kept P g net i NowTable i (h NowTable)) (each_kept P g net i OldTable rows (h OldTable)))
+    (each_kept P g net i InTable inputs (h InTable))
 
 -- ---- in a rising order
 
@@ -173,6 +184,18 @@ read_once shift low high [] r = tt
 read_once shift low high (k ∷ ks) r =
     (apart shift k.from (rank k.from + 1) high ks (omega arith) r.1, read_once shift (rank k.from + 1) high ks r.1)
 
+source_fits : (rows inputs i : ℕ) (which : Which) (j : ℕ) → rows ≤ CODE_ROWS → j < count_of rows inputs i which →
+    SourceFits i inputs (read which j)
+source_fits rows inputs i NowTable j few h = h
+source_fits rows inputs i OldTable j few h = omega (arith, few, h)
+source_fits rows inputs i InTable j few h = h
+
+old_there : (rows inputs i : ℕ) (which : Which) (j : ℕ) → j < count_of rows inputs i which →
+    OldIsThere rows (read which j)
+old_there rows inputs i NowTable j h = tt
+old_there rows inputs i OldTable j h = h
+old_there rows inputs i InTable j h = tt
+
 pub reads_fit : (g : Grid) (net : Net) (rows inputs i : ℕ) → i < rows → rows ≤ CODE_ROWS →
     ReadsFit i inputs (sized 0 (bare_row (kept_terms g net rows inputs i)))
 reads_fit g net rows inputs i h few =
@@ -180,8 +203,8 @@ reads_fit g net rows inputs i h few =
     let shift = shift_of ks in
     record {
       sources = All-map (λ (t : CodeTerm). SourceFits i inputs t.from) (code_term shift) ks
-          (each_term (λ k. SourceFits i inputs k.from) g net rows inputs i (λ j c l. l)
-          (λ j c l. omega (arith, l, few)) (λ j c l. l));
+          (each_term (λ k. SourceFits i inputs k.from) g net rows inputs i
+          (λ which j l some. source_fits rows inputs i which j few l));
       once = read_once shift 0 (2000 + inputs) ks
           (row_rises g net rows inputs i (omega (arith, h, few)) (omega (arith, few)));
     }
@@ -192,4 +215,5 @@ pub reads_there : (g : Grid) (net : Net) (rows inputs i : ℕ) →
 reads_there g net rows inputs i =
     let ks = kept_terms g net rows inputs i in
     All-map (λ (t : CodeTerm). OldIsThere rows t.from) (code_term (shift_of ks)) ks
-    (each_term (λ k. OldIsThere rows k.from) g net rows inputs i (λ j c l. tt) (λ j c l. l) (λ j c l. tt))
+    (each_term (λ k. OldIsThere rows k.from) g net rows inputs i
+    (λ which j l some. old_there rows inputs i which j l))

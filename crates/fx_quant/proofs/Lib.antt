@@ -4,6 +4,8 @@ mod Faults
 mod FittingDesigns
 mod FittingRows
 mod LeastWidths
+mod OddParts
 mod Programs
 mod Rounding
 mod RowByRow
+mod TakenCoefficients

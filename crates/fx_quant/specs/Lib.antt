@@ -1,3 +1,4 @@
+pub mod Coefficients
 pub mod Design
 pub mod Inside
 pub mod Laws

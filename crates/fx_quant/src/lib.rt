@@ -21,4 +21,4 @@ pub use formats::{
     Formats, GREATEST_FRACTION, GREATEST_LOW, LARGEST_GUARD, LEAST_FRACTION, LEAST_LOW, LOWS_APART,
     ROUNDED_BITS, quantising_limits_are_these,
 };
-pub use laws::coefficients_are_rounded_to_nearest;
+pub use laws::{coefficients_are_rounded_to_nearest, rows_take_the_forms};
