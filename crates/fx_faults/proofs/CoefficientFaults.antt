@@ -1,7 +1,7 @@
 -- What is told of coefficients is true.
 use Rattle.std.proofs.Common.{◌≡◌, ◌≢◌, ◌≤◌, ℕ, zero, suc, ◌+◌, ◌*◌}
 use Rattle.std.proofs.Common.{false, List, [], ◌∷◌, ◌++◌, length, Some}
-use Rattle.std.proofs.Common.{Ok, Err, refl, sym, ap, subst, arith, lit<, lit≤}
+use Rattle.std.proofs.Common.{Ok, Err, refl, sym, ap, subst, arith, lit≤}
 use Rattle.std.specs.Prelude.{IsSomeAnd, flat_map, slice_get}
 use Rattle.toml.specs.Data.{Data, Members, Items, no_items, item, as_array}
 use Rattle.fx_math.specs.Faults.{unless}
@@ -32,7 +32,6 @@ use Rattle.fx_files.proofs.HeldNumerals.{matrix_read, numerals_entries}
 use Rattle.fx_keys.specs.declared.fault.FilterFault.TheVariants.{NotMonic}
 use Rattle.fx_keys.specs.declared.limits.TheConstants.{SECTION_COEFFICIENTS}
 use Rattle.fx_nums.specs.Fraction.{is_one}
-use Rattle.fx_faults.specs.Faults.{OfForm}
 use Rattle.fx_faults.specs.Places.{HasToBeOne}
 use Rattle.fx_faults.proofs.KeyFaults.{some_true, exactly_true, IsListKey, IsListAt, count_at, most_true, entries_at}
 use Rattle.fx_faults.proofs.KeyFaults.{rows_at, entries_true, rows_true, numerals_true, matrix_true}
@@ -40,7 +39,7 @@ use Rattle.fx_faults.proofs.KeyFaults.{rows_at, entries_true, rows_true, numeral
 -- ---- the entries that are read
 
 -- numbers, and the entries that mean them
-MeanEach : List Fraction → List Data → Type 0
+pub MeanEach : List Fraction → List Data → Type 0
 MeanEach [] [] = Unit {0}
 MeanEach (c ∷ cs) (x ∷ xs) = IsNumeralOf c x × MeanEach cs xs
 MeanEach _ _ = ⊥
@@ -53,7 +52,7 @@ mean_both [] bs (x ∷ xs) ys h g = absurd h
 mean_both (u ∷ us) bs [] ys h g = absurd h
 mean_both (u ∷ us) bs (x ∷ xs) ys h g = (h.0, mean_both us bs xs ys h.1 g)
 
-mean_row : (cs : List Fraction) (vs : Items) → Each IsNumeralOf cs vs →
+pub mean_row : (cs : List Fraction) (vs : Items) → Each IsNumeralOf cs vs →
     MeanEach cs (flat_map (entries_of kind.Numeral) (listed vs))
 unfolding MeanEach
 mean_row [] no_items h = tt
@@ -61,7 +60,7 @@ mean_row [] (item v vs) h = absurd h
 mean_row (c ∷ cs) no_items h = absurd h
 mean_row (c ∷ cs) (item v vs) h = (h.0, mean_row cs vs h.1)
 
-mean_rows : (rows : List (List Fraction)) (vs : Items) → Each (IsListOf IsNumeralOf) rows vs →
+pub mean_rows : (rows : List (List Fraction)) (vs : Items) → Each (IsListOf IsNumeralOf) rows vs →
     MeanEach (row_after_row rows) (flat_map (entries_of (ListOf kind.Numeral)) (listed vs))
 unfolding MeanEach
 mean_rows [] no_items h = tt
@@ -75,7 +74,7 @@ mean_rows (r ∷ rs) (item v vs) h =
     mean_both r (row_after_row rs) (entries_of (ListOf kind.Numeral) v)
     (flat_map (entries_of (ListOf kind.Numeral)) (listed vs)) first (mean_rows rs vs h.1)
 
-means_at : (n : ℕ) (cs : List Fraction) (xs : List Data) (c : Fraction) → MeanEach cs xs → slice_get cs n ≡ Some c →
+pub means_at : (n : ℕ) (cs : List Fraction) (xs : List Data) (c : Fraction) → MeanEach cs xs → slice_get cs n ≡ Some c →
     (x : Data) × (slice_get xs n ≡ Some x) × IsNumeralOf c x
 unfolding MeanEach
 means_at n [] xs c h there = absurd cc
@@ -83,6 +82,16 @@ means_at n (d ∷ cs) [] c h there = absurd h
 means_at zero (d ∷ cs) (x ∷ xs) c h there =
     let same : d ≡ c = cc in (x, refl, subst (λ (y : Fraction). IsNumeralOf y x) same h.0)
 means_at (suc n) (d ∷ cs) (x ∷ xs) c h there = means_at n cs xs c h.1 there
+
+pub entry_means : (n : ℕ) (cs : List Fraction) (xs : List Data) (x : Data) → MeanEach cs xs →
+    slice_get xs n ≡ Some x → (c : Fraction) × (slice_get cs n ≡ Some c) × IsNumeralOf c x
+unfolding MeanEach
+entry_means n [] [] x h there = absurd cc
+entry_means n [] (y ∷ xs) x h there = absurd h
+entry_means n (c ∷ cs) [] x h there = absurd h
+entry_means zero (c ∷ cs) (y ∷ xs) x h there =
+    let same : y ≡ x = cc in (c, refl, subst (λ (z : Data). IsNumeralOf c z) same h.0)
+entry_means (suc n) (c ∷ cs) (y ∷ xs) x h there = entry_means n cs xs x h.1 there
 
 -- ---- entries that are 1
 
@@ -164,9 +173,9 @@ transfer_true file f named h =
     let a : IsListKey file key.A kind.Numeral =
     record { own = refl; is = refl; entry = λ n v x. x; past = λ got limit x. x } in
     in_step (polynomial_in key.B file) _ f h
-    (polynomial_true file key.B f b (OfForm form.Tf named (0, lit< tt, refl)) (λ e. absurd cc) (lit≤ tt))
+    (polynomial_true file key.B f b named (λ e. absurd cc) (lit≤ tt))
     (λ bs above h1. in_step (polynomial_in key.A file) _ f h1
-    (polynomial_true file key.A f a (OfForm form.Tf named (1, lit< tt, refl)) (λ e. absurd cc) (lit≤ tt))
+    (polynomial_true file key.A f a named (λ e. absurd cc) (lit≤ tt))
     (λ cs below h2. in_step (monic key.A 0 cs) _ f h2
     (λ wrong. monic_fault key.A 0 cs f wrong (λ c there test e.
     let (vs, list, each) = polynomial_read file key.A cs below in
@@ -186,7 +195,7 @@ unfolding cascade_in
 cascade_true file f named h =
     let k = key.Sections in
     let of = rows_key file in
-    in_step (rows_in k file) _ f h (rows_true file k f of (OfForm form.Sos named (0, lit< tt, refl)))
+    in_step (rows_in k file) _ f h (rows_true file k f of named)
     (λ vs got h1.
     let list = rows_at file k vs got in
     in_step (some k vs) _ f h1 (some_true file k vs f (λ e. absurd cc) (count_at file k vs list))
@@ -227,7 +236,7 @@ states_true : (file : Members) (f : FilterFault) → HoldsForm file form.Ss →
 unfolding state_rows
 states_true file f named of h =
     let k = key.MatA in
-    in_step (rows_in k file) _ f h (rows_true file k f of (OfForm form.Ss named (0, lit< tt, refl)))
+    in_step (rows_in k file) _ f h (rows_true file k f of named)
     (λ vs got h1.
     let list = rows_at file k vs got in
     in_step (some k vs) _ f h1 (some_true file k vs f (λ e. absurd cc) (count_at file k vs list))
@@ -261,11 +270,11 @@ space_true m p file f named ins outs h =
     let states : HasCount file key.MatA n = count_at file key.MatA vs list in
     in_step (matrix key.MatA n vs) _ f h1 (matrix_true file key.MatA n vs f a list states)
     (λ xs h2 h3. in_step (matrix_in key.MatB n m file) _ f h3
-    (block_true file key.MatB n m f named b (OfForm form.Ss named (1, lit< tt, refl)) (λ e. absurd cc) states ins)
+    (block_true file key.MatB n m f named b named (λ e. absurd cc) states ins)
     (λ bs h4 h5. in_step (matrix_in key.MatC p n file) _ f h5
-    (block_true file key.MatC p n f named c (OfForm form.Ss named (2, lit< tt, refl)) (λ e. absurd cc) outs states)
+    (block_true file key.MatC p n f named c named (λ e. absurd cc) outs states)
     (λ cs h6 h7. in_step (matrix_in key.MatD p m file) _ f h7
-    (block_true file key.MatD p m f named d (OfForm form.Ss named (3, lit< tt, refl)) (λ e. absurd cc) outs ins)
+    (block_true file key.MatD p m f named d named (λ e. absurd cc) outs ins)
     (λ ds h8 h9. absurd cc)))))
 
 -- ---- lattice
@@ -274,7 +283,7 @@ reflections_true : (file : Members) (f : FilterFault) → HoldsForm file form.La
     IsListKey file key.K kind.Numeral → reflections_in file ≡ Err f → IsTrueOf file f
 unfolding reflections_in
 reflections_true file f named of h =
-    in_step (entries_in key.K file) _ f h (entries_true file key.K f of (OfForm form.Lattice named (0, lit< tt, refl)))
+    in_step (entries_in key.K file) _ f h (entries_true file key.K f of named)
     (λ vs got h1.
     let list = entries_at file key.K vs got in
     in_step (at_most key.K vs) _ f h1 (most_true file key.K kind.Numeral vs f of list (lit≤ tt))
@@ -293,7 +302,7 @@ taps_true : (n : ℕ) (file : Members) (f : FilterFault) → HoldsForm file form
     IsListKey file key.V kind.Numeral → taps_in n file ≡ Err f → IsTrueOf file f
 unfolding taps_in
 taps_true n file f named order of h =
-    in_step (entries_in key.V file) _ f h (entries_true file key.V f of (OfForm form.Lattice named (1, lit< tt, refl)))
+    in_step (entries_in key.V file) _ f h (entries_true file key.V f of named)
     (λ vs got h1.
     let list = entries_at file key.V vs got in
     in_step (some key.V vs) _ f h1 (some_true file key.V vs f (λ e. absurd cc) (count_at file key.V vs list))

@@ -28,7 +28,7 @@ use Rattle.fx_files.specs.Ports.{outputs_in, ports_in, single, outputs_fit}
 use Rattle.fx_files.specs.Reading.{filter_in}
 use Rattle.fx_files.specs.Settings.{settings_in}
 use Rattle.fx_files.specs.declared.forms.Form.TheVariants as form
-use Rattle.fx_faults.specs.Faults.{Always, OfForm, IsMissing, IsUnknown, IsOfOtherKind}
+use Rattle.fx_faults.specs.Faults.{IsMissing, IsUnknown, IsOfOtherKind}
 use Rattle.fx_faults.specs.Faults.{IsMisshapen, IsPastLimit, IsTrueOf, IsNoTable}
 use Rattle.fx_faults.proofs.FileFaults.{fault_true}
 
@@ -104,7 +104,7 @@ without_a = member (codes "b") (list_of_one one_text) (form_at (codes "tf") (inp
 
 without_a_true : IsMissing without_a key.A
 without_a_true = record {
-  required = OfForm form.Tf refl (1, lit< tt, refl);
+  required = refl;
   place = 0;
   owner = without_a;
   stands = refl;
@@ -120,7 +120,7 @@ without_width = with_ports 32 (input 16) (list_of_two (output one_text 16) (tabl
 
 without_width_true : IsMissing without_width key.OutputsWidth
 without_width_true =
-    record { required = Always (4, lit< tt, refl); place = 1; owner = widthless; stands = refl; absent = refl }
+    record { required = tt; place = 1; owner = widthless; stands = refl; absent = refl }
 
 -- `b` is no list
 abbrev no_list : Members

@@ -6,3 +6,8 @@ mod PortFaults
 mod WordFaults
 mod FileFaults
 mod Examples
+mod Described
+mod DescribedKeys
+mod DescribedNumerals
+mod DescribedCounts
+mod DescribedLimits

@@ -1,7 +1,7 @@
 -- What is told of inputs and outputs is true.
 use Rattle.std.proofs.Common.{◌≡◌, ◌≢◌, ◌≤◌, ℕ, suc, ◌+◌, ℤ, pos, ◌<ℤ◌}
 use Rattle.std.proofs.Common.{false, [], ◌∷◌, Option, Some, None}
-use Rattle.std.proofs.Common.{Ok, Err, refl, sym, ap, subst, arith, lit<, lit≤, inl, inr}
+use Rattle.std.proofs.Common.{Ok, Err, refl, sym, ap, subst, arith, lit≤, inl, inr}
 use Rattle.std.specs.Int.Signed.{lt_z, lt_z_yes}
 use Rattle.std.proofs.lemmas.Bool.{cases_Bool}
 use Rattle.std.proofs.lemmas.Int.{ints}
@@ -36,7 +36,6 @@ use Rattle.fx_files.specs.Ports.{Inputs, top_word, bounds_of, tables_in, input_i
 use Rattle.fx_files.specs.Ports.{error_in, output_in, each_output, outputs_in, ports_in}
 use Rattle.fx_files.proofs.HeldNumbers.{natural_read, whole_read}
 use Rattle.fx_files.proofs.HeldNumerals.{numeral_read}
-use Rattle.fx_faults.specs.Faults.{Always}
 use Rattle.fx_faults.proofs.Listed.{is_table, other_table, numeral_fault}
 use Rattle.fx_faults.proofs.KeyFaults.{missing_true, kind_true, bad_true, some_true, list_here}
 use Rattle.fx_faults.proofs.KeyFaults.{IsListKey, IsListAt, count_at, most_true, list_true, entry_true}
@@ -107,7 +106,7 @@ input_true file form n t f named stands h =
     (natural_true file key.InputsWidth n t f (record {
       stands = stands;
       is = refl;
-      required = λ none. Always (2, lit< tt, refl);
+      required = λ none. tt;
       fits = λ z held. no_default z held;
       ranged = refl;
       past = λ got limit x. inl x;
@@ -159,7 +158,7 @@ inputs_true file form f named h =
     in_step (whole_in key.InputLow file) _ f h
     (whole_true file key.InputLow 0 file (default_of key.InputLow) (range_of key.InputLow) f (low_key file))
     (λ low got h1. in_step (tables_in key.Inputs file) _ f h1
-    (tables_true file key.Inputs f (inputs_key file) (Always (1, lit< tt, refl)) (λ e. absurd cc) (lit≤ tt))
+    (tables_true file key.Inputs f (inputs_key file) tt (λ e. absurd cc) (lit≤ tt))
     (λ vs tables h2.
     let list = tables_at file key.Inputs vs tables in
     in_step (each_input vs) _ f h2
@@ -181,7 +180,7 @@ error_true : (file : Members) (n : ℕ) (t : Members) (f : FilterFault) → IsTa
 unfolding error_in
 error_true file n t f stands h =
     in_step (needed key.OutputsError t) _ f h
-    (missing_true file key.OutputsError n t f stands (Always (5, lit< tt, refl)))
+    (missing_true file key.OutputsError n t f stands tt)
     (λ v got h1.
     let there : value_at key.OutputsError t ≡ Some v =
     fault_ok (Missing key.OutputsError) (value_at key.OutputsError t) v got in
@@ -216,7 +215,7 @@ output_true file form low n t f named within stands h =
     (natural_true file key.OutputsWidth n t f (record {
       stands = stands;
       is = refl;
-      required = λ none. Always (4, lit< tt, refl);
+      required = λ none. tt;
       fits = λ z held. no_default z held;
       ranged = refl;
       past = λ got limit x. inl x;
@@ -256,7 +255,7 @@ outputs_true : (file : Members) (form : Form) (low : ℤ) (f : FilterFault) → 
 unfolding outputs_in
 outputs_true file form low f named within h =
     in_step (tables_in key.Outputs file) _ f h
-    (tables_true file key.Outputs f (outputs_key file) (Always (3, lit< tt, refl)) (λ e. absurd cc) (lit≤ tt))
+    (tables_true file key.Outputs f (outputs_key file) tt (λ e. absurd cc) (lit≤ tt))
     (λ vs tables h1.
     let list = tables_at file key.Outputs vs tables in
     output_fault low 0 vs f h1

@@ -1,7 +1,7 @@
 -- What is told of unknown keys and of words is true.
 use Rattle.std.proofs.Common.{◌≡◌, ◌≢◌, ◌∙◌, ℕ}
 use Rattle.std.proofs.Common.{true, false, List, [], ◌∷◌, Option, Some, None}
-use Rattle.std.proofs.Common.{Result, Ok, Err, refl, ap, subst, lit<, inl, inr}
+use Rattle.std.proofs.Common.{Result, Ok, Err, refl, ap, subst, inl, inr}
 use Rattle.std.specs.Prelude.{IsSome}
 use Rattle.std.specs.Option.{option_map_or}
 use Rattle.std.proofs.lemmas.Bool.{cases_Bool}
@@ -39,7 +39,7 @@ use Rattle.fx_files.specs.Forms.{form_text, form_word, structure_word, known_key
 use Rattle.fx_files.specs.Head.{form_in, head_in}
 use Rattle.fx_files.specs.Settings.{structure_at, structure_in}
 use Rattle.fx_files.specs.declared.forms.Structure.{Structure}
-use Rattle.fx_faults.specs.Faults.{Always, words_of}
+use Rattle.fx_faults.specs.Faults.{words_of}
 use Rattle.fx_faults.specs.Places.{keys_in}
 use Rattle.fx_faults.proofs.Listed.{is_string}
 use Rattle.fx_faults.proofs.KeyFaults.{own_value, missing_true, kind_true}
@@ -152,7 +152,7 @@ text_true file k v f own is there h =
 
 form_true : (file : Members) (f : FilterFault) → form_in file ≡ Err f → IsTrueOf file f
 form_true file f h =
-    in_step (needed key.Form file) _ f h (missing_true file key.Form 0 file f refl (Always (0, lit< tt, refl)))
+    in_step (needed key.Form file) _ f h (missing_true file key.Form 0 file f refl tt)
     (λ v got h1.
     let there : value_at key.Form file ≡ Some v = fault_ok (Missing key.Form) (value_at key.Form file) v got in
     in_step (or_fault (WrongKind key.Form) (as_str v)) _ f h1 (text_true file key.Form v f refl refl there)

@@ -1,6 +1,6 @@
 -- What each fault says of a filter file.
 use Rattle.std.specs.Prelude.{◌≡◌, ◌≢◌, ◌⊎◌, ℕ, ◌<◌, ◌≤◌, ℤ, pos, ◌-ℤ◌, ◌<ℤ◌, true, false, List, [], ◌∷◌, All}
-use Rattle.std.specs.Prelude.{Contains, Option, Some, None, IsSome, Err, codes, slice_get}
+use Rattle.std.specs.Prelude.{Option, Some, None, IsSome, Err, codes, slice_get, ⊤}
 use Rattle.std.specs.Str.{is_utf8}
 use Rattle.toml.specs.Data.{Data, Members, string, integer, get_member}
 use Rattle.toml.specs.Parse.{parse_document}
@@ -20,26 +20,36 @@ use Rattle.fx_keys.specs.declared.key.Key.TheVariants as key
 use Rattle.fx_keys.specs.declared.limits.Range.{Range}
 use Rattle.fx_keys.specs.declared.limits.TheConstants.{LOW_DIFFERENCES, ACCUMULATOR_WIDTHS}
 use Rattle.fx_files.specs.Describes.{HoldsForm}
-use Rattle.fx_files.specs.Forms.{own_keys}
 use Rattle.fx_files.specs.Holds.{value_at, HoldsInteger, HoldsNatural, IsNumeralOf}
 use Rattle.fx_files.specs.Ports.{bounds_of}
 use Rattle.fx_files.specs.declared.forms.Form.{Form}
+use Rattle.fx_files.specs.declared.forms.Form.TheVariants as form
 use Rattle.fx_faults.specs.Kinds.{kind_of, HasKind, Text, IsOfWholes, IsOfNumerals, entries_of}
 use Rattle.fx_faults.specs.Places.{IsTableAt, keys_in, HasValue, HasEntry, HasCount, HasRow, IsFixedCount, IsFixedWidth}
 use Rattle.fx_faults.specs.Places.{HasToBeOne}
 
 -- ---- keys
 
--- keys that files of every form have to have; those of the coefficients too
-abbrev pub always_required : List Key
-always_required =
-    key.Form ∷ key.Inputs ∷ key.InputsWidth ∷ key.Outputs ∷ key.OutputsWidth ∷ key.OutputsError ∷ []
+-- the key is required: in files of every form, or of the form that this file names
+abbrev pub IsRequired : Members → Key → Type 0
+IsRequired file key.Form = ⊤
+IsRequired file key.Inputs = ⊤
+IsRequired file key.InputsWidth = ⊤
+IsRequired file key.Outputs = ⊤
+IsRequired file key.OutputsWidth = ⊤
+IsRequired file key.OutputsError = ⊤
+IsRequired file key.B = HoldsForm file form.Tf
+IsRequired file key.A = HoldsForm file form.Tf
+IsRequired file key.Sections = HoldsForm file form.Sos
+IsRequired file key.MatA = HoldsForm file form.Ss
+IsRequired file key.MatB = HoldsForm file form.Ss
+IsRequired file key.MatC = HoldsForm file form.Ss
+IsRequired file key.MatD = HoldsForm file form.Ss
+IsRequired file key.K = HoldsForm file form.Lattice
+IsRequired file key.V = HoldsForm file form.Lattice
+IsRequired file _ = ⊥
 
-pub data IsRequired (file : Members) (k : Key) : Type 0 where
-  Always : Contains always_required k → IsRequired file k
-  OfForm : (f : Form) → HoldsForm file f → Contains (own_keys f) k → IsRequired file k
-
--- the key is required, and is not there
+-- the key is required, and a table in which it has to stand has none
 pub record IsMissing (file : Members) (k : Key) : Type 0 where
   pub required : IsRequired file k
   pub place : ℕ
@@ -47,7 +57,7 @@ pub record IsMissing (file : Members) (k : Key) : Type 0 where
   pub stands : IsTableAt (parent_of k) place file owner
   pub absent : value_at k owner ≡ None
 
--- a table has a key that is none of those it may have
+-- a table of the file has this key, and it is none of those that such a table may have in a file of its form
 pub record IsUnknown (file : Members) (text : List ℕ) : Type 0 where
   pub form : Form
   pub named : HoldsForm file form
@@ -111,7 +121,7 @@ pub record IsNotOne (file : Members) (k : Key) (place : ℕ) : Type 0 where
 
 -- ---- counts
 
--- the list of the key is empty, and may not be so
+-- the list of the key is empty, as only that of `k` may be
 abbrev pub IsEmpty : Members → Key → ℕ → ℕ → Type 0
 IsEmpty file k got wanted = (k ≢ key.K) × HasCount file k got × (got ≡ 0) × (wanted ≡ 1)
 
@@ -171,7 +181,7 @@ pub record IsNoAccumulator (file : Members) (got limit : ℤ) : Type 0 where
   pub other : (bits : ℕ) → is_accumulator bits ≡ true → got ≢ pos bits
   pub greatest : limit ≡ ACCUMULATOR_WIDTHS.high
 
--- an output's low position is that far below the inputs', and may not be so
+-- the low position of an output is so far below that of the inputs (above, where the number is negative), and too far
 pub record IsFarFromInputs (file : Members) (got limit : ℤ) : Type 0 where
   pub place : ℕ
   pub low : ℤ

@@ -1,4 +1,4 @@
-ghost use Rattle.fx_faults.specs.Laws.{FaultsAreTrue, NoTableLaw, NoneIsDescribed};
+ghost use Rattle.fx_faults.specs.Laws.{FaultlessLaw, FaultsAreTrue, NoTableLaw, NoneIsDescribed};
 
 /// A law with nothing to run: what a fault says that is told of a filter file is so.
 pub fn told_faults_are_true()
@@ -13,4 +13,9 @@ pub fn no_table_is_told_exactly()
 /// A law with nothing to run: a table of which a fault is told describes no filter.
 pub fn faulty_tables_describe_no_filter()
     ensures { NoneIsDescribed }
+{}
+
+/// A law with nothing to run: a table describes a filter exactly where what each fault says of it is not so.
+pub fn tables_without_faults_are_described()
+    ensures { FaultlessLaw }
 {}
