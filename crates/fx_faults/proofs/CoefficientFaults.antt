@@ -17,6 +17,7 @@ use Rattle.fx_files.specs.Describes.{HoldsForm}
 use Rattle.fx_files.specs.Holds.{value_at}
 use Rattle.fx_files.specs.declared.forms.Form.{Form}
 use Rattle.fx_files.proofs.Steps.{bind_ok, same_ok, test_err, in_step, some_and, and_some}
+use Rattle.fx_files.proofs.HeldNumerals.{IsListed, entries_listed, rows_listed}
 use Rattle.fx_faults.specs.Kinds as kind
 use Rattle.fx_faults.specs.Kinds.{Kind, ListOf, kind_of, HasKind, IsOfWholes, IsOfNumerals, entries_of, listed}
 use Rattle.fx_faults.specs.Places.{HasEntry, HasCount, IsFixedCount, IsFixedWidth}
@@ -33,8 +34,8 @@ use Rattle.fx_keys.specs.declared.fault.FilterFault.TheVariants.{NotMonic}
 use Rattle.fx_keys.specs.declared.limits.TheConstants.{SECTION_COEFFICIENTS}
 use Rattle.fx_nums.specs.Fraction.{is_one}
 use Rattle.fx_faults.specs.Places.{HasToBeOne}
-use Rattle.fx_faults.proofs.KeyFaults.{some_true, exactly_true, IsListKey, IsListAt, count_at, most_true, entries_at}
-use Rattle.fx_faults.proofs.KeyFaults.{rows_at, entries_true, rows_true, numerals_true, matrix_true}
+use Rattle.fx_faults.proofs.KeyFaults.{some_true, exactly_true, IsListKey, count_at, most_true}
+use Rattle.fx_faults.proofs.KeyFaults.{entries_true, rows_true, numerals_true, matrix_true}
 
 -- ---- the entries that are read
 
@@ -148,14 +149,14 @@ unfolding polynomial_in
 polynomial_true file k f of required other limited h =
     in_step (entries_in k file) _ f h (entries_true file k f of required)
     (λ vs got h1.
-    let list = entries_at file k vs got in
+    let list = entries_listed k file vs got in
     in_step (some k vs) _ f h1 (some_true file k vs f other (count_at file k vs list))
     (λ u any h2. in_step (at_most k vs) _ f h2 (most_true file k kind.Numeral vs f of list limited)
     (λ u few h3. numerals_true file k vs f of list h3)))
 
 -- the list at a key, and what its entries mean
 IsRead : Members → Key → List Fraction → Type 0
-IsRead file k cs = (vs : Items) × IsListAt file k vs × Each IsNumeralOf cs vs
+IsRead file k cs = (vs : Items) × IsListed k file vs × Each IsNumeralOf cs vs
 
 polynomial_read : (file : Members) (k : Key) (cs : List Fraction) → polynomial_in k file ≡ Ok cs → IsRead file k cs
 unfolding polynomial_in IsRead
@@ -163,7 +164,7 @@ polynomial_read file k cs h =
     let (vs, got, h1) = bind_ok (entries_in k file) _ cs h in
     let (u1, any, h2) = bind_ok (some k vs) _ cs h1 in
     let (u2, few, h3) = bind_ok (at_most k vs) _ cs h2 in
-    (vs, entries_at file k vs got, numerals_entries k 0 vs cs h3)
+    (vs, entries_listed k file vs got, numerals_entries k 0 vs cs h3)
 
 transfer_true : (file : Members) (f : FilterFault) → HoldsForm file form.Tf → transfer_in file ≡ Err f → IsTrueOf file f
 unfolding transfer_in IsRead
@@ -197,7 +198,7 @@ cascade_true file f named h =
     let of = rows_key file in
     in_step (rows_in k file) _ f h (rows_true file k f of named)
     (λ vs got h1.
-    let list = rows_at file k vs got in
+    let list = rows_listed k file vs got in
     in_step (some k vs) _ f h1 (some_true file k vs f (λ e. absurd cc) (count_at file k vs list))
     (λ u any h2. in_step (at_most k vs) _ f h2 (most_true file k (ListOf kind.Numeral) vs f of list (lit≤ tt))
     (λ u few h3. in_step (matrix k SECTION_COEFFICIENTS vs) _ f h3
@@ -225,7 +226,7 @@ unfolding matrix_in
 block_true file k height width f named of required other high wide h =
     in_step (rows_in k file) _ f h (rows_true file k f of required)
     (λ vs got h1.
-    let list = rows_at file k vs got in
+    let list = rows_listed k file vs got in
     in_step (some k vs) _ f h1 (some_true file k vs f other (count_at file k vs list))
     (λ u any h2. in_step (exactly k height vs) _ f h2
     (exactly_true file form.Ss k height vs f named (count_at file k vs list) high)
@@ -238,18 +239,18 @@ states_true file f named of h =
     let k = key.MatA in
     in_step (rows_in k file) _ f h (rows_true file k f of named)
     (λ vs got h1.
-    let list = rows_at file k vs got in
+    let list = rows_listed k file vs got in
     in_step (some k vs) _ f h1 (some_true file k vs f (λ e. absurd cc) (count_at file k vs list))
     (λ u any h2. in_step (at_most k vs) _ f h2 (most_true file k (ListOf kind.Numeral) vs f of list (lit≤ tt))
     (λ u few h3. absurd cc)))
 
-states_at : (file : Members) (vs : Items) → state_rows file ≡ Ok vs → IsListAt file key.MatA vs
+states_at : (file : Members) (vs : Items) → state_rows file ≡ Ok vs → IsListed key.MatA file vs
 unfolding state_rows
 states_at file vs h =
     let (ws, got, h1) = bind_ok (rows_in key.MatA file) _ vs h in
     let (u1, any, h2) = bind_ok (some key.MatA ws) _ vs h1 in
     let (u2, few, same) = bind_ok (at_most key.MatA ws) _ vs h2 in
-    subst (IsListAt file key.MatA) (same_ok ws vs same) (rows_at file key.MatA ws got)
+    subst (IsListed key.MatA file) (same_ok ws vs same) (rows_listed key.MatA file ws got)
 
 space_true : (m p : ℕ) (file : Members) (f : FilterFault) → HoldsForm file form.Ss → HasCount file key.Inputs m →
     HasCount file key.Outputs p → space_in m p file ≡ Err f → IsTrueOf file f
@@ -285,7 +286,7 @@ unfolding reflections_in
 reflections_true file f named of h =
     in_step (entries_in key.K file) _ f h (entries_true file key.K f of named)
     (λ vs got h1.
-    let list = entries_at file key.K vs got in
+    let list = entries_listed key.K file vs got in
     in_step (at_most key.K vs) _ f h1 (most_true file key.K kind.Numeral vs f of list (lit≤ tt))
     (λ u few h2. numerals_true file key.K vs f of list h2))
 
@@ -296,7 +297,7 @@ reflections_count file ks h =
     let (vs, got, h1) = bind_ok (entries_in key.K file) _ ks h in
     let (u, few, h2) = bind_ok (at_most key.K vs) _ ks h1 in
     subst (HasCount file key.K) (count_of IsNumeralOf ks vs (numerals_entries key.K 0 vs ks h2))
-    (count_at file key.K vs (entries_at file key.K vs got))
+    (count_at file key.K vs (entries_listed key.K file vs got))
 
 taps_true : (n : ℕ) (file : Members) (f : FilterFault) → HoldsForm file form.Lattice → HasCount file key.K n →
     IsListKey file key.V kind.Numeral → taps_in n file ≡ Err f → IsTrueOf file f
@@ -304,7 +305,7 @@ unfolding taps_in
 taps_true n file f named order of h =
     in_step (entries_in key.V file) _ f h (entries_true file key.V f of named)
     (λ vs got h1.
-    let list = entries_at file key.V vs got in
+    let list = entries_listed key.V file vs got in
     in_step (some key.V vs) _ f h1 (some_true file key.V vs f (λ e. absurd cc) (count_at file key.V vs list))
     (λ u any h2. in_step (exactly key.V (n + 1) vs) _ f h2
     (exactly_true file form.Lattice key.V (n + 1) vs f named (count_at file key.V vs list) (n, order, refl))

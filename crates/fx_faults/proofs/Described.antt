@@ -45,6 +45,11 @@ said_of (Some y) P x there h = let same : y ≡ x = cc in subst P same h
 pub is_there : {A : Type 0} (o : Option A) (P : A → Type 0) → IsSomeAnd o P → o ≢ None
 is_there o P h none = none_and o P none h
 
+-- what stands in a table that is the file's own
+pub own_there : (file : Members) (k : Key) (owner : Members) (v : Data) → file ≡ owner → value_at k owner ≡ Some v →
+    value_at k file ≡ Some v
+own_there file k owner v is there = subst (λ (t : Members). value_at k t ≡ Some v) (sym is) there
+
 pub same_data : (x y : Data) → ◌≡◌ {A = Option Data} (Some x) (Some y) → x ≡ y
 same_data x y h = cc
 

@@ -28,12 +28,13 @@ use Rattle.fx_files.proofs.HeldNumbers.{count_of}
 use Rattle.fx_files.proofs.Steps.{and_some, some_and}
 use Rattle.fx_faults.specs.Kinds as kind
 use Rattle.fx_faults.specs.Kinds.{Kind, kind_of, HasKind}
-use Rattle.fx_faults.specs.Places.{list_at, IsTableAt, HasValue, HasCount, HasRow}
+use Rattle.fx_faults.specs.Places.{list_at, HasCount, HasRow}
 use Rattle.fx_faults.specs.Faults.{IsMisshapen}
 use Rattle.fx_faults.proofs.Listed.{is_array, is_nothing}
 use Rattle.std.specs.Option.{option_and_then}
 use Rattle.fx_faults.proofs.Described.{said, each_at, list_is, count_is, form_is}
 use Rattle.fx_faults.proofs.Described.{foreign, home_of, at_home, transfer_of, cascade_of, space_of, lattice_of}
+use Rattle.fx_faults.proofs.KeyFaults.{own_value}
 use Rattle.fx_faults.proofs.DescribedKeys.{kind_held}
 
 -- ---- lists that are there
@@ -138,13 +139,6 @@ module _ (file : Members) (f : Filter) (d : Describes file f) where
   abbrev p : ℕ
   p = length f.outputs
 
-  own_value : (k : Key) (v : Data) → parent_of k ≡ None → value_at k file ≡ Some v → HasValue file k 0 v
-  own_value k v own there = record {
-    owner = file;
-    stands = subst (λ (x : Option Key). IsTableAt x 0 file file) (sym own) refl;
-    held = there;
-  }
-
   -- a key of an input or output has no list in the file's own table
   inner_count : (k list : Key) (n : ℕ) → parent_of k ≡ Some list → HasCount file k n → ⊥
   inner_count k list n inner count =
@@ -155,13 +149,14 @@ module _ (file : Members) (f : Filter) (d : Describes file f) where
   text_count : (k : Key) (n : ℕ) → parent_of k ≡ None → kind_of k ≡ kind.Text → HasCount file k n → ⊥
   text_count k n own is count =
       let (v, vs, there, list) = count_value file k n count in
-      no_array v vs list (subst (λ (x : Kind). HasKind x v) is (kind_held file f d k 0 v (own_value k v own there)))
+      no_array v vs list
+      (subst (λ (x : Kind). HasKind x v) is (kind_held file f d k 0 v (own_value file k v own there)))
 
   whole_count : (k : Key) (n : ℕ) → parent_of k ≡ None → kind_of k ≡ kind.Whole → HasCount file k n → ⊥
   whole_count k n own is count =
       let (v, vs, there, list) = count_value file k n count in
       no_array_whole v vs list
-      (subst (λ (x : Kind). HasKind x v) is (kind_held file f d k 0 v (own_value k v own there)))
+      (subst (λ (x : Kind). HasKind x v) is (kind_held file f d k 0 v (own_value file k v own there)))
 
   pub home : (k : Key) (g : Form) (n : ℕ) → home_of k ≡ Some g → HasCount file k n → g ≡ form_of f.coefficients
   home k g n own count =

@@ -29,6 +29,7 @@ use Rattle.fx_faults.specs.Kinds as kind
 use Rattle.fx_faults.specs.Kinds.{Kind, ListOf, kind_of, HasKind, EachEntry}
 use Rattle.fx_faults.specs.Places.{IsTableAt, keys_in, HasValue}
 use Rattle.fx_faults.specs.Faults.{IsMissing, IsUnknown, IsOfOtherKind, words_of, IsOtherWord}
+use Rattle.fx_faults.proofs.Described.{own_there}
 use Rattle.fx_faults.proofs.Described.{said, lacking, said_of, is_there, each_at, table_is, form_is}
 use Rattle.fx_faults.proofs.Described.{at_home, transfer_of, cascade_of, space_of, lattice_of}
 
@@ -217,44 +218,40 @@ module _ (file : Members) (f : Filter) (d : Describes file f) where
 
   -- ---- kinds
 
-  own_there : (k : Key) (owner : Members) (v : Data) → file ≡ owner → value_at k owner ≡ Some v →
-      value_at k file ≡ Some v
-  own_there k owner v is there = subst (λ (t : Members). value_at k t ≡ Some v) (sym is) there
-
   pub kind_held : (k : Key) (place : ℕ) (v : Data) → HasValue file k place v → HasKind (kind_of k) v
   kind_held key.Form place v h =
-      let there = own_there key.Form h.owner v h.stands h.held in
+      let there = own_there file key.Form h.owner v h.stands h.held in
       is_here (as_str v) _ (said_of (value_at key.Form file) (λ v. as_str v ≡ Some (form_text (form_of f.coefficients)))
       v there d.form)
   kind_held key.Structure place v h =
-      let there = own_there key.Structure h.owner v h.stands h.held in
+      let there = own_there file key.Structure h.owner v h.stands h.held in
       is_here (as_str v) _ (said (f.settings.structure ≡ default_structure (form_of f.coefficients))
       (value_at key.Structure file) (λ v. as_str v ≡ Some (structure_text f.settings.structure)) v there
       d.settings.structure)
   kind_held key.InputLow place v h =
       whole_kind key.InputLow (default_of key.InputLow) file f.input_low v d.input_low.number
-      (own_there key.InputLow h.owner v h.stands h.held)
+      (own_there file key.InputLow h.owner v h.stands h.held)
   kind_held key.Accumulator place v h =
       whole_kind key.Accumulator (default_of key.Accumulator) file (pos f.settings.accumulator) v
-      d.settings.accumulator (own_there key.Accumulator h.owner v h.stands h.held)
+      d.settings.accumulator (own_there file key.Accumulator h.owner v h.stands h.held)
   kind_held key.Word place v h =
       whole_kind key.Word (default_of key.Word) file (pos f.settings.word) v d.settings.word.number
-      (own_there key.Word h.owner v h.stands h.held)
+      (own_there file key.Word h.owner v h.stands h.held)
   kind_held key.Guards place v h =
       naturals_kind key.Guards file f.settings.guards v d.settings.guards
-      (own_there key.Guards h.owner v h.stands h.held)
+      (own_there file key.Guards h.owner v h.stands h.held)
   kind_held key.Fractions place v h =
       naturals_kind key.Fractions file f.settings.fractions v d.settings.fractions
-      (own_there key.Fractions h.owner v h.stands h.held)
+      (own_there file key.Fractions h.owner v h.stands h.held)
   kind_held key.Lengths place v h =
       naturals_kind key.Lengths file f.settings.lengths v d.settings.lengths
-      (own_there key.Lengths h.owner v h.stands h.held)
+      (own_there file key.Lengths h.owner v h.stands h.held)
   kind_held key.Inputs place v h =
-      let there = own_there key.Inputs h.owner v h.stands h.held in
+      let there = own_there file key.Inputs h.owner v h.stands h.held in
       list_kind (IsTableOf DescribesInput) kind.Table f.inputs v (table_kind DescribesInput)
       (said_of (value_at key.Inputs file) (IsListOf (IsTableOf DescribesInput) f.inputs) v there d.inputs.held)
   kind_held key.Outputs place v h =
-      let there = own_there key.Outputs h.owner v h.stands h.held in
+      let there = own_there file key.Outputs h.owner v h.stands h.held in
       list_kind (IsTableOf (DescribesOutput f.input_low)) kind.Table f.outputs v
       (table_kind (DescribesOutput f.input_low))
       (said_of (value_at key.Outputs file) (IsListOf (IsTableOf (DescribesOutput f.input_low)) f.outputs) v there
@@ -278,47 +275,47 @@ module _ (file : Members) (f : Filter) (d : Describes file f) where
       table_is (DescribesOutput f.input_low) f.outputs file key.Outputs place h.owner d.outputs.held h.stands in
       numeral_kind o.error v (said_of (value_at key.OutputsError h.owner) (IsNumeralOf o.error) v h.held is.error)
   kind_held key.B place v h =
-      let there = own_there key.B h.owner v h.stands h.held in
+      let there = own_there file key.B h.owner v h.stands h.held in
       let home : form.Tf ≡ form_of f.coefficients = at_home file f key.B form.Tf v d refl there in
       let (b, a, is) = transfer_of m p file f.coefficients d.coefficients home in
       numerals_kind b v (said_of (value_at key.B file) _ v there is.numerator.entries)
   kind_held key.A place v h =
-      let there = own_there key.A h.owner v h.stands h.held in
+      let there = own_there file key.A h.owner v h.stands h.held in
       let home : form.Tf ≡ form_of f.coefficients = at_home file f key.A form.Tf v d refl there in
       let (b, a, is) = transfer_of m p file f.coefficients d.coefficients home in
       numerals_kind a v (said_of (value_at key.A file) _ v there is.denominator.entries)
   kind_held key.Sections place v h =
-      let there = own_there key.Sections h.owner v h.stands h.held in
+      let there = own_there file key.Sections h.owner v h.stands h.held in
       let home : form.Sos ≡ form_of f.coefficients = at_home file f key.Sections form.Sos v d refl there in
       let (cs, is) = cascade_of m p file f.coefficients d.coefficients home in
       rows_kind is.rows v (said_of (value_at key.Sections file) _ v there is.held)
   kind_held key.MatA place v h =
-      let there = own_there key.MatA h.owner v h.stands h.held in
+      let there = own_there file key.MatA h.owner v h.stands h.held in
       let home : form.Ss ≡ form_of f.coefficients = at_home file f key.MatA form.Ss v d refl there in
       let s = space_of m p file f.coefficients d.coefficients home in
       rows_kind s.space.state.rows v (said_of (value_at key.MatA file) _ v there s.space.state.held)
   kind_held key.MatB place v h =
-      let there = own_there key.MatB h.owner v h.stands h.held in
+      let there = own_there file key.MatB h.owner v h.stands h.held in
       let home : form.Ss ≡ form_of f.coefficients = at_home file f key.MatB form.Ss v d refl there in
       let s = space_of m p file f.coefficients d.coefficients home in
       rows_kind s.space.input.rows v (said_of (value_at key.MatB file) _ v there s.space.input.held)
   kind_held key.MatC place v h =
-      let there = own_there key.MatC h.owner v h.stands h.held in
+      let there = own_there file key.MatC h.owner v h.stands h.held in
       let home : form.Ss ≡ form_of f.coefficients = at_home file f key.MatC form.Ss v d refl there in
       let s = space_of m p file f.coefficients d.coefficients home in
       rows_kind s.space.output.rows v (said_of (value_at key.MatC file) _ v there s.space.output.held)
   kind_held key.MatD place v h =
-      let there = own_there key.MatD h.owner v h.stands h.held in
+      let there = own_there file key.MatD h.owner v h.stands h.held in
       let home : form.Ss ≡ form_of f.coefficients = at_home file f key.MatD form.Ss v d refl there in
       let s = space_of m p file f.coefficients d.coefficients home in
       rows_kind s.space.through.rows v (said_of (value_at key.MatD file) _ v there s.space.through.held)
   kind_held key.K place v h =
-      let there = own_there key.K h.owner v h.stands h.held in
+      let there = own_there file key.K h.owner v h.stands h.held in
       let home : form.Lattice ≡ form_of f.coefficients = at_home file f key.K form.Lattice v d refl there in
       let (ks, vs, is) = lattice_of m p file f.coefficients d.coefficients home in
       numerals_kind ks v (said_of (value_at key.K file) _ v there is.reflections)
   kind_held key.V place v h =
-      let there = own_there key.V h.owner v h.stands h.held in
+      let there = own_there file key.V h.owner v h.stands h.held in
       let home : form.Lattice ≡ form_of f.coefficients = at_home file f key.V form.Lattice v d refl there in
       let (ks, vs, is) = lattice_of m p file f.coefficients d.coefficients home in
       numerals_kind vs v (said_of (value_at key.V file) _ v there is.taps)

@@ -36,6 +36,7 @@ use Rattle.fx_files.specs.Reading.{filter_in}
 use Rattle.fx_files.proofs.HeldFilter.{filter_read}
 use Rattle.fx_faults.proofs.NumberFaults.{not_past}
 use Rattle.fx_faults.proofs.FileFaults.{fault_true}
+use Rattle.fx_faults.proofs.Described.{own_there}
 use Rattle.fx_faults.proofs.Described.{said, said_of, each_at, table_is}
 use Rattle.fx_faults.proofs.Described.{transfer_of, cascade_of, space_of, lattice_of}
 use Rattle.fx_faults.proofs.DescribedKeys.{none_missing, none_unknown, none_other, no_other_word}
@@ -117,10 +118,6 @@ module _ (file : Members) (f : Filter) (d : Describes file f) where
   abbrev p : ℕ
   p = length f.outputs
 
-  own_there : (k : Key) (owner : Members) (v : Data) → file ≡ owner → value_at k owner ≡ Some v →
-      value_at k file ≡ Some v
-  own_there k owner v is there = subst (λ (t : Members). value_at k t ≡ Some v) (sym is) there
-
   -- a key of which no count is limited
   no_most : (k : Key) (got limit : ℤ) → most_of k ≡ 0 → ¬ IsTooLong file k got limit
   no_most k got limit none h =
@@ -135,16 +132,16 @@ module _ (file : Members) (f : Filter) (d : Describes file f) where
   none_out key.InputLow got limit h =
       let v = h.held in
       held_within key.InputLow (range_of key.InputLow) (default_of key.InputLow) file f.input_low h.value h.entry got
-      limit d.input_low (own_there key.InputLow v.owner h.value v.stands v.held) h.among
+      limit d.input_low (own_there file key.InputLow v.owner h.value v.stands v.held) h.among
       (subst (λ (r : Range). IsPast r got limit) h.ranged h.past)
   none_out key.Word got limit h =
       let v = h.held in
       held_within key.Word (range_of key.Word) (default_of key.Word) file (pos f.settings.word) h.value h.entry got
-      limit d.settings.word (own_there key.Word v.owner h.value v.stands v.held) h.among
+      limit d.settings.word (own_there file key.Word v.owner h.value v.stands v.held) h.among
       (subst (λ (r : Range). IsPast r got limit) h.ranged h.past)
   none_out key.Accumulator got limit h =
       let v = h.held in
-      let there = own_there key.Accumulator v.owner h.value v.stands v.held in
+      let there = own_there file key.Accumulator v.owner h.value v.stands v.held in
       let bits = f.settings.accumulator in
       let same : pos bits ≡ got =
       sym (number_is key.Accumulator (default_of key.Accumulator) file h.value got (pos bits) there
@@ -185,17 +182,17 @@ module _ (file : Members) (f : Filter) (d : Describes file f) where
   none_out key.Guards got limit h =
       let v = h.held in
       entries_within key.Guards file f.settings.guards h.value h.entry got limit d.settings.guards
-      (own_there key.Guards v.owner h.value v.stands v.held) h.among
+      (own_there file key.Guards v.owner h.value v.stands v.held) h.among
       (subst (λ (r : Range). IsPast r got limit) h.ranged h.past)
   none_out key.Fractions got limit h =
       let v = h.held in
       entries_within key.Fractions file f.settings.fractions h.value h.entry got limit d.settings.fractions
-      (own_there key.Fractions v.owner h.value v.stands v.held) h.among
+      (own_there file key.Fractions v.owner h.value v.stands v.held) h.among
       (subst (λ (r : Range). IsPast r got limit) h.ranged h.past)
   none_out key.Lengths got limit h =
       let v = h.held in
       entries_within key.Lengths file f.settings.lengths h.value h.entry got limit d.settings.lengths
-      (own_there key.Lengths v.owner h.value v.stands v.held) h.among
+      (own_there file key.Lengths v.owner h.value v.stands v.held) h.among
       (subst (λ (r : Range). IsPast r got limit) h.ranged h.past)
   none_out key.Form got limit h = absurd h.whole
   none_out key.Inputs got limit h = absurd h.whole

@@ -24,7 +24,8 @@ use Rattle.fx_keys.specs.declared.key.Key.TheVariants as key
 use Rattle.fx_files.specs.Describes.{HoldsForm}
 use Rattle.fx_files.specs.Holds.{value_at}
 use Rattle.fx_files.specs.declared.forms.Form.{Form}
-use Rattle.fx_files.proofs.Steps.{bind_ok, fault_ok, same_ok, fault_err, test_err, in_step, and_some}
+use Rattle.fx_files.proofs.Steps.{fault_ok, fault_err, test_err, in_step, and_some}
+use Rattle.fx_files.proofs.HeldNumerals.{IsListed}
 use Rattle.fx_faults.specs.Kinds as kind
 use Rattle.fx_faults.specs.Kinds.{Kind, ListOf, kind_of, HasKind, IsOfWholes, IsOfNumerals, entries_of, listed}
 use Rattle.fx_faults.specs.Places.{IsTableAt, HasValue, HasEntry, HasCount, IsFixedCount, IsFixedWidth}
@@ -144,17 +145,11 @@ pub record IsListKey (file : Members) (k : Key) (kd : Kind) : Type 0 where
   pub past : (got limit : ℤ) → IsOutOfRange file k got limit ⊎ IsTooLong file k got limit →
       IsPastLimit file k got limit
 
--- the list at a key
-pub record IsListAt (file : Members) (k : Key) (vs : Items) : Type 0 where
-  pub value : Data
-  pub there : value_at k file ≡ Some value
-  pub list : as_array value ≡ Some vs
-
-pub count_at : (file : Members) (k : Key) (vs : Items) → IsListAt file k vs → HasCount file k (item_count vs)
+pub count_at : (file : Members) (k : Key) (vs : Items) → IsListed k file vs → HasCount file k (item_count vs)
 count_at file k vs h = counted file k h.value vs h.there h.list
 
 pub most_true : (file : Members) (k : Key) (kd : Kind) (vs : Items) (f : FilterFault) → IsListKey file k kd →
-    IsListAt file k vs → 1 ≤ most_of k → at_most k vs ≡ Err f → IsTrueOf file f
+    IsListed k file vs → 1 ≤ most_of k → at_most k vs ≡ Err f → IsTrueOf file f
 most_true file k kd vs f of list some h =
     let (test, e) = test_err (Limit k (pos (item_count vs)) (pos (most_of k))) f
     (nat_le (item_count vs) (most_of k)) h in
@@ -175,14 +170,14 @@ list_true file k kd v f of there h = list_fault k v f h (λ none e.
     kind_true file k (ListOf kd) 0 v f (own_value file k v of.own there) of.is (no_list kd v none) e)
 
 pub entry_true : (file : Members) (k : Key) (kd : Kind) (vs : Items) (n : ℕ) (x : Data) (f : FilterFault) →
-    IsListKey file k kd → IsListAt file k vs → get_item n vs ≡ Some x → ¬ HasKind kd x → WrongKind k ≡ f →
+    IsListKey file k kd → IsListed k file vs → get_item n vs ≡ Some x → ¬ HasKind kd x → WrongKind k ≡ f →
     IsTrueOf file f
 entry_true file k kd vs n x f of list there other e =
     kind_true file k (ListOf kd) 0 list.value f (own_value file k list.value of.own list.there) of.is
     (other_entry kd list.value vs n x list.list there other) e
 
 pub list_here : (file : Members) (k : Key) (v : Data) (vs : Items) → needed k file ≡ Ok v → list_at k v ≡ Ok vs →
-    IsListAt file k vs
+    IsListed k file vs
 list_here file k v vs there list = record {
   value = v;
   there = fault_ok (Missing k) (value_at k file) v there;
@@ -193,22 +188,6 @@ own_missing : (file : Members) (k : Key) (kd : Kind) (f : FilterFault) → IsLis
     needed k file ≡ Err f → IsTrueOf file f
 own_missing file k kd f of required h =
     missing_true file k 0 file f (subst (λ (p : Option Key). IsTableAt p 0 file file) (sym of.own) refl) required h
-
-pub entries_at : (file : Members) (k : Key) (vs : Items) → entries_in k file ≡ Ok vs → IsListAt file k vs
-unfolding entries_in
-entries_at file k vs h =
-    let (v, there, h1) = bind_ok (needed k file) _ vs h in
-    let (ws, list, h2) = bind_ok (list_at k v) _ vs h1 in
-    let (u, all, same) = bind_ok (all_numerals k ws) _ vs h2 in
-    subst (IsListAt file k) (same_ok ws vs same) (list_here file k v ws there list)
-
-pub rows_at : (file : Members) (k : Key) (vs : Items) → rows_in k file ≡ Ok vs → IsListAt file k vs
-unfolding rows_in
-rows_at file k vs h =
-    let (v, there, h1) = bind_ok (needed k file) _ vs h in
-    let (ws, list, h2) = bind_ok (list_at k v) _ vs h1 in
-    let (u, all, same) = bind_ok (all_rows k ws) _ vs h2 in
-    subst (IsListAt file k) (same_ok ws vs same) (list_here file k v ws there list)
 
 pub entries_true : (file : Members) (k : Key) (f : FilterFault) → IsListKey file k kind.Numeral → IsRequired file k →
     entries_in k file ≡ Err f → IsTrueOf file f
@@ -236,7 +215,7 @@ rows_true file k f of required h =
 
 -- an entry is no numeral
 pub numerals_true : (file : Members) (k : Key) (vs : Items) (f : FilterFault) → IsListKey file k kind.Numeral →
-    IsListAt file k vs → each_numeral k 0 vs ≡ Err f → IsTrueOf file f
+    IsListed k file vs → each_numeral k 0 vs ≡ Err f → IsTrueOf file f
 numerals_true file k vs f of list h = numerals_fault k 0 vs f h
     (λ n x there other e. entry_true file k kind.Numeral vs n x f of list there other e)
     (λ n x there is.
@@ -251,7 +230,7 @@ numerals_true file k vs f of list h = numerals_fault k 0 vs f h
 
 -- a row has another count of entries, or one of these is no numeral
 pub matrix_true : (file : Members) (k : Key) (width : ℕ) (vs : Items) (f : FilterFault) →
-    IsListKey file k (ListOf kind.Numeral) → IsListAt file k vs → IsFixedWidth file k width →
+    IsListKey file k (ListOf kind.Numeral) → IsListed k file vs → IsFixedWidth file k width →
     matrix k width vs ≡ Err f → IsTrueOf file f
 unfolding matrix
 matrix_true file k width vs f of list fixed h =

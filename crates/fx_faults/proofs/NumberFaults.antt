@@ -21,6 +21,7 @@ use Rattle.fx_keys.specs.declared.limits.Range.{Range}
 use Rattle.fx_files.specs.Holds.{value_at, HoldsInteger}
 use Rattle.fx_files.proofs.Steps.{fault_ok, fault_err, in_step}
 use Rattle.fx_files.proofs.HeldNumbers.{sure_yes, integer_read}
+use Rattle.fx_files.proofs.HeldNumerals.{IsListed}
 use Rattle.fx_faults.specs.Kinds as kind
 use Rattle.fx_faults.specs.Kinds.{Kind, ListOf, kind_of, HasKind, IsOfWholes, IsOfNumerals, entries_of, listed}
 use Rattle.fx_faults.specs.Places.{IsTableAt}
@@ -28,7 +29,7 @@ use Rattle.fx_faults.specs.Faults.{IsRequired, IsPast, IsRangeOf, IsOutOfRange, 
 use Rattle.fx_faults.specs.Faults.{IsTrueOf}
 use Rattle.fx_faults.proofs.Listed.{is_array, is_integer, is_nothing, other_whole}
 use Rattle.fx_faults.proofs.Listed.{whole_stands}
-use Rattle.fx_faults.proofs.KeyFaults.{kind_true, some_true, IsListKey, IsListAt, count_at}
+use Rattle.fx_faults.proofs.KeyFaults.{kind_true, some_true, IsListKey, count_at}
 use Rattle.fx_faults.proofs.KeyFaults.{most_true, list_true, entry_true}
 
 -- ---- alone
@@ -165,7 +166,7 @@ unfolding naturals
 list_of_numbers file k v f of there h =
     in_step (list_at k v) _ f h (list_true file k kind.Whole v f of.list there)
     (λ vs got h1.
-    let list : IsListAt file k vs =
+    let list : IsListed k file vs =
     record { value = v; there = there; list = fault_ok (WrongKind k) (as_array v) vs got } in
     in_step (all_whole k vs) _ f h1
     (λ wrong. other_whole k vs f wrong (λ n x at other e.

@@ -20,6 +20,8 @@ use Rattle.fx_files.specs.Holds.{value_at}
 use Rattle.fx_files.specs.declared.forms.Form.{Form}
 use Rattle.fx_files.proofs.Steps.{bind_ok, fault_ok, same_ok, fault_err, test_err, in_step}
 use Rattle.fx_files.proofs.HeldNumbers.{sure_yes}
+use Rattle.fx_files.proofs.HeldNumerals.{IsListed}
+use Rattle.fx_files.proofs.HeldTables.{tables_listed}
 use Rattle.fx_faults.specs.Kinds as kind
 use Rattle.fx_faults.specs.Kinds.{Kind, ListOf, kind_of, HasKind, IsOfWholes, IsOfNumerals, entries_of, listed}
 use Rattle.fx_faults.specs.Places.{IsTableAt, HasValue}
@@ -38,7 +40,7 @@ use Rattle.fx_files.proofs.HeldNumbers.{natural_read, whole_read}
 use Rattle.fx_files.proofs.HeldNumerals.{numeral_read}
 use Rattle.fx_faults.proofs.Listed.{is_table, other_table, numeral_fault}
 use Rattle.fx_faults.proofs.KeyFaults.{missing_true, kind_true, bad_true, some_true, list_here}
-use Rattle.fx_faults.proofs.KeyFaults.{IsListKey, IsListAt, count_at, most_true, list_true, entry_true}
+use Rattle.fx_faults.proofs.KeyFaults.{IsListKey, count_at, most_true, list_true, entry_true}
 use Rattle.fx_faults.proofs.NumberFaults.{IsNumberKey, whole_true, natural_true}
 use Rattle.fx_faults.proofs.WordFaults.{keys_true}
 
@@ -53,7 +55,7 @@ tables_true file k f of required other limited h =
     (λ v there h1. in_step (list_at k v) _ f h1
     (list_true file k kind.Table v f of (fault_ok (Missing k) (value_at k file) v there))
     (λ vs got h2.
-    let list : IsListAt file k vs = list_here file k v vs there got in
+    let list : IsListed k file vs = list_here file k v vs there got in
     in_step (all_tables k vs) _ f h2
     (λ wrong. other_table k vs f wrong (λ n x at no_table e.
     entry_true file k kind.Table vs n x f of list at no_table e))
@@ -61,18 +63,8 @@ tables_true file k f of required other limited h =
     (λ u any h4. in_step (at_most k vs) _ f h4 (most_true file k kind.Table vs f of list limited)
     (λ u few h5. absurd cc)))))
 
-pub tables_at : (file : Members) (k : Key) (vs : Items) → tables_in k file ≡ Ok vs → IsListAt file k vs
-unfolding tables_in
-tables_at file k vs h =
-    let (v, there, h1) = bind_ok (needed k file) _ vs h in
-    let (ws, list, h2) = bind_ok (list_at k v) _ vs h1 in
-    let (u1, all, h3) = bind_ok (all_tables k ws) _ vs h2 in
-    let (u2, any, h4) = bind_ok (some k ws) _ vs h3 in
-    let (u3, few, same) = bind_ok (at_most k ws) _ vs h4 in
-    subst (IsListAt file k) (same_ok ws vs same) (list_here file k v ws there list)
-
 -- the table at a place of a list
-table_stands : (file : Members) (k : Key) (vs : Items) (n : ℕ) (t : Members) → IsListAt file k vs →
+table_stands : (file : Members) (k : Key) (vs : Items) (n : ℕ) (t : Members) → IsListed k file vs →
     get_item n vs ≡ Some (table t) → IsTableAt (Some k) n file t
 table_stands file k vs n t list there = rw (list.there, list.list) there
 
@@ -160,7 +152,7 @@ inputs_true file form f named h =
     (λ low got h1. in_step (tables_in key.Inputs file) _ f h1
     (tables_true file key.Inputs f (inputs_key file) tt (λ e. absurd cc) (lit≤ tt))
     (λ vs tables h2.
-    let list = tables_at file key.Inputs vs tables in
+    let list = (tables_listed key.Inputs file vs tables).0 in
     in_step (each_input vs) _ f h2
     (λ wrong. input_fault vs f wrong
     (λ n x there no_table e. entry_true file key.Inputs kind.Table vs n x f (inputs_key file) list there no_table e)
@@ -257,7 +249,7 @@ outputs_true file form low f named within h =
     in_step (tables_in key.Outputs file) _ f h
     (tables_true file key.Outputs f (outputs_key file) tt (λ e. absurd cc) (lit≤ tt))
     (λ vs tables h1.
-    let list = tables_at file key.Outputs vs tables in
+    let list = (tables_listed key.Outputs file vs tables).0 in
     output_fault low 0 vs f h1
     (λ n x there no_table e. entry_true file key.Outputs kind.Table vs n x f (outputs_key file) list there no_table e)
     (λ n t there told.
