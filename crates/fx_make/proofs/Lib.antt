@@ -1,5 +1,11 @@
 mod AtRest
 mod Listed
 mod OfForm
+mod Outputs
+mod Padding
+mod Places
 mod Ports
+mod SameRaises
+mod Sweeps
+mod Telling
 mod Trials

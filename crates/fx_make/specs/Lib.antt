@@ -1,4 +1,6 @@
 pub mod Candidates
 pub mod Designs
+pub mod Lengths
 pub mod Search
 pub mod Structures
+pub mod Targets

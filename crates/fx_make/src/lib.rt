@@ -1,9 +1,12 @@
 //! Integer code for a filter: the structure that it asks for, as a filter in implicit form, and the search for a design.
 #![tactic(auto)]
 
+mod caps;
 mod fail;
+mod lengths;
 mod refusal;
 mod structure;
+mod targets;
 #[cfg(test)]
 mod tests;
 
