@@ -6,6 +6,7 @@ mod FittingRows
 mod LeastWidths
 mod OddParts
 mod Programs
+mod PuttingRows
 mod Rounding
 mod RowByRow
 mod TakenCoefficients

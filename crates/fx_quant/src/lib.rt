@@ -7,6 +7,7 @@ mod fault;
 mod form;
 mod formats;
 mod laws;
+mod net;
 mod program;
 mod row;
 mod scaled;

@@ -2,6 +2,7 @@ ghost use Rattle.std.specs.Prelude.{◌≡◌, IfOk, [], ◌∷◌, pos, length}
 
 use crate::{Formats, QuantFault, quantise, quantise_rows};
 use fx_code::{CodeTerm, Read};
+use fx_net::Net;
 use fx_nums::{Den, Frac};
 use fx_sif::{Block, Entry, Sif, Sizes};
 use std::alloc::Global;
@@ -130,5 +131,19 @@ fn the_program_of_one_pole(rt: HostRuntime) -> Result<(), Fail> {
         assert_eq!(rt; program.terms(i), design.terms(i));
     }
     assert_eq!(rt; program.outputs(), [2].as_slice());
+    Ok(())
+}
+
+#[test]
+fn the_net_of_one_pole(rt: HostRuntime) -> Result<(), Fail> {
+    let form = first_form(rt.alloc(), decimal(5, 1))?;
+    let design = quantise(rt.alloc(), &form, formats(64), 0, 14)?;
+    let mut net: Net<8> = Net::new(rt.alloc())?;
+    design.put_net(&mut net, 0);
+    assert_eq!(rt; Some(net.old(0, 1)), Frac::new(1, Den::Two(1)));
+    assert_eq!(rt; Some(net.input(0, 0)), Frac::new(2, Den::Two(1)));
+    assert_eq!(rt; Some(net.now(1, 0)), Frac::new(1, Den::Two(0)));
+    assert_eq!(rt; net.halves(0), 1);
+    assert_eq!(rt; net.halves(1), 0);
     Ok(())
 }
