@@ -1,10 +1,8 @@
 pub mod CertFault
 pub mod CodeFault
-pub mod Design
 pub mod Filter
 pub mod FilterFault
 pub mod Laws
-pub mod Peaks
 pub mod Report
 pub mod SampleFault
 pub mod UnknownKey

@@ -15,9 +15,9 @@ pub fn places_are_these()
     ensures { PLACES ≡ 9 }
 {}
 
-// A word, and v / 2^64, rounded up in the last place.
+/// Puts a word and v / 2^64 behind a text, with nine places, rounded up in the last. The magnitude of v is below 2^126.
 #[tactic(auto, using(crate::proofs::Joined::regrouped))]
-pub(crate) fn put_up(text: &mut Vec<u8>, word: &str, v: i128) -> Result<(), AllocError>
+pub fn put_up(text: &mut Vec<u8>, word: &str, v: i128) -> Result<(), AllocError>
     requires { unsigned_abs v < 2 ^ 126 }
     ensures { OnOk result (text.new.items ≡ text.old.items ++ up_part word.now v) }
 {

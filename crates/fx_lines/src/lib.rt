@@ -1,12 +1,11 @@
-//! The printed lines of a run: a filter as it is shown, verdicts, reports, designs and gains, and why a file is refused.
+//! The printed lines of a run: a filter as it is shown, verdicts, reports, and why a file is refused; and the pieces of
+//! which lines are put together.
 #![tactic(auto)]
 
 mod cert_fault;
 mod code_fault;
 mod decimals;
-mod design;
 mod filter_fault;
-mod peaks;
 mod pieces;
 mod report;
 mod sample_fault;
@@ -18,11 +17,12 @@ mod verdict;
 
 pub use cert_fault::{cert_fault_line, cert_faults_are_one_line};
 pub use code_fault::code_fault_line;
-pub use decimals::{PLACES, places_are_these};
-pub use design::{design_lines, put_above, put_block, put_candidate, put_shift, put_wide};
+pub use decimals::{PLACES, places_are_these, put_up};
 pub use filter_fault::{filter_fault_line, filter_faults_are_one_line};
-pub use peaks::{put_length, put_peak};
+pub use pieces::{put_field, put_word};
 pub use report::report_lines;
 pub use sample_fault::sample_fault_line;
 pub use shown::shown_filter;
-pub use verdict::{accepted_lines, refused_line, verdicts_are_lines};
+pub use verdict::{
+    accepted_lines, put_compared, put_errors, put_target, refused_line, verdicts_are_lines,
+};

@@ -5,7 +5,8 @@ ghost use Rattle.std.specs.Prelude.{◌≡◌, ◌++◌, OnOk};
 use itoa::{Buffer, Integer};
 use std::alloc::AllocError;
 
-pub(crate) fn put_word(text: &mut Vec<u8>, word: &str) -> Result<(), AllocError>
+/// Puts a word behind a text.
+pub fn put_word(text: &mut Vec<u8>, word: &str) -> Result<(), AllocError>
     ensures { OnOk result (text.new.items ≡ text.old.items ++ word.now) }
 {
     text.extend_from_slice(word.as_bytes())
@@ -19,12 +20,8 @@ fn put_number<I: Integer>(text: &mut Vec<u8>, number: I) -> Result<(), AllocErro
     text.extend_from_slice(buffer.format(number).as_bytes())
 }
 
-// A word, and a whole number in decimal.
-pub(crate) fn put_field<I: Integer>(
-    text: &mut Vec<u8>,
-    word: &str,
-    number: I,
-) -> Result<(), AllocError>
+/// Puts a word and a whole number in decimal behind a text.
+pub fn put_field<I: Integer>(text: &mut Vec<u8>, word: &str, number: I) -> Result<(), AllocError>
     ensures { OnOk result (text.new.items ≡ text.old.items ++ word.now ++ I.text number) }
 {
     put_word(text, word)?;

@@ -1,17 +1,15 @@
 use crate::{
-    accepted_lines, cert_fault_line, code_fault_line, design_lines, filter_fault_line, put_above,
-    put_block, put_candidate, put_length, put_peak, put_shift, put_wide, refused_line,
+    accepted_lines, cert_fault_line, code_fault_line, filter_fault_line, refused_line,
     report_lines, sample_fault_line, shown_filter,
 };
-use fx_block::{Inequality, Least, LengthWhy};
+use fx_block::Inequality;
 use fx_cert::{Cert, CertFault};
 use fx_code::LimitOf;
 use fx_decimal::DecimalFault;
 use fx_error::Parts;
 use fx_files::{FilterFault, Key, read_filter};
-use fx_nums::Iv;
 use fx_sim::SampleFault;
-use fx_sweep::{Place, RangeAt, TargetRange};
+use fx_sweep::Place;
 use fx_text::{CodeFault, read_code};
 use std::test::Fail;
 
@@ -266,80 +264,6 @@ fn places_of_a_sweep_are_named(rt: HostRuntime) -> Result<(), Fail> {
         let which = Inequality::Sweep(0, *place);
         assert_eq!(rt; refused_line(rt.alloc(), which, 5, 4)?.as_slice(), *line);
     }
-    Ok(())
-}
-
-// What is put behind a text stands behind it.
-#[test]
-fn a_gain_has_its_ends_and_its_words(rt: HostRuntime) -> Result<(), Fail> {
-    let gain = Iv::point(-1).hull(Iv::point(36893488147419103233));
-    let mut text = Vec::from_slice(rt.alloc(), b"x")?;
-    put_peak(&mut text, 1, 0, gain, &[100, -100, 0])?;
-    assert_eq!(rt;
-        text.as_slice(),
-        b"xgain 1 0 -0.000000001 2.000000001\nworst 1 0 100 -100 0\n".as_slice()
-    );
-    Ok(())
-}
-
-const RANGE: LengthWhy = LengthWhy::Range(TargetRange {
-    target: 2,
-    at: RangeAt {
-        place: Place::Gain(3),
-        value: LIMIT,
-    },
-});
-
-const OVER: LengthWhy = LengthWhy::Bounds(Least::Over {
-    row: 2,
-    value: 2147483648,
-    cap: 2147483647,
-});
-
-const SLOW: LengthWhy = LengthWhy::Bounds(Least::Slow {
-    row: 5,
-    before: 8,
-    after: 9,
-});
-
-#[test]
-fn lengths_have_their_lines(rt: HostRuntime) -> Result<(), Fail> {
-    let mut text = Vec::new(rt.alloc());
-    put_length(&mut text, 64, 0, RANGE)?;
-    put_length(&mut text, 256, 1, OVER)?;
-    put_length(&mut text, 4096, 0, SLOW)?;
-    assert_eq!(rt;
-        text.as_slice(),
-        b"length 64 range target 2 gain 3 309485009821345068724781056\nlength 256 input 1 over row 2 2147483648 2147483647\nlength 4096 input 0 slow row 5 8 9\n".as_slice()
-    );
-    Ok(())
-}
-
-#[test]
-fn a_design_has_its_errors(rt: HostRuntime) -> Result<(), Fail> {
-    let certificate = Cert::build(rt.alloc(), 256, &[51, 50], &[9223372036854775808, 0])?;
-    assert_eq!(rt;
-        design_lines(rt.alloc(), 4, 20, 256, &certificate)?.as_slice(),
-        b"design 4 20 256\nerror 0 0.500000000\nerror 1 0.000000000\n".as_slice()
-    );
-    Ok(())
-}
-
-#[test]
-fn candidates_have_their_lines(rt: HostRuntime) -> Result<(), Fail> {
-    let mut text = Vec::new(rt.alloc());
-    put_candidate(&mut text, 0, 14, 64)?;
-    put_shift(&mut text, 3)?;
-    put_candidate(&mut text, 4, 14, 64)?;
-    put_wide(&mut text, 3, 1, -4611686018427387904)?;
-    put_candidate(&mut text, 8, 26, 4096)?;
-    put_block(&mut text, OVER)?;
-    put_candidate(&mut text, 8, 26, 4096)?;
-    put_above(&mut text, 1, 9, 8)?;
-    assert_eq!(rt;
-        text.as_slice(),
-        b"candidate 0 14 64 shift row 3\ncandidate 4 14 64 wide row 3 term 1 -4611686018427387904\ncandidate 8 26 4096 over row 2 2147483648 2147483647\ncandidate 8 26 4096 error output 1 9 8\n".as_slice()
-    );
     Ok(())
 }
 

@@ -32,8 +32,8 @@ fn put_error(text: &mut Vec<u8>, output: usize, error: i128) -> Result<(), Alloc
     put_word(text, "\n")
 }
 
-// The errors of a certificate.
-pub(crate) fn put_errors(text: &mut Vec<u8>, certificate: &Cert) -> Result<(), AllocError>
+/// Puts the lines of a certificate's errors behind a text, those of `accepted_lines`.
+pub fn put_errors(text: &mut Vec<u8>, certificate: &Cert) -> Result<(), AllocError>
     ensures { OnOk result (text.new.items ≡ text.old.items ++ error_lines 0 certificate.now.errors) }
 {
     for (output, error) in certificate.e().iter().enumerate() {
@@ -53,7 +53,7 @@ pub fn accepted_lines(alloc: Global, certificate: &Cert) -> Result<Vec<u8>, Allo
 }
 
 // A number of a sweep.
-pub(crate) fn put_place(text: &mut Vec<u8>, place: Place) -> Result<(), AllocError>
+fn put_place(text: &mut Vec<u8>, place: Place) -> Result<(), AllocError>
     ensures { OnOk result (text.new.items ≡ text.old.items ++ place_text place) }
 {
     match place {
@@ -64,9 +64,9 @@ pub(crate) fn put_place(text: &mut Vec<u8>, place: Place) -> Result<(), AllocErr
     }
 }
 
-// A word, a target, and a number of its sweep.
+/// Puts a word, a target and a number of its sweep behind a text.
 #[tactic(auto, using(crate::proofs::Joined::regrouped))]
-pub(crate) fn put_target(
+pub fn put_target(
     text: &mut Vec<u8>,
     word: &str,
     target: u8,
@@ -111,9 +111,10 @@ fn put_sides(text: &mut Vec<u8>, left: i128, right: i128) -> Result<(), AllocErr
     put_word(text, "\n")
 }
 
-// The same behind a word and the number of a row or an output.
+/// Puts the end of a line behind a text: a word, the number of a row or an output, what is there, and the limit that it
+/// passes or the number that is wanted.
 #[tactic(auto, using(crate::proofs::Joined::regrouped))]
-pub(crate) fn put_compared(
+pub fn put_compared(
     text: &mut Vec<u8>,
     word: &str,
     place: u8,

@@ -1,7 +1,7 @@
 use Rattle.std.proofs.Common.{rules, FitsSigned}
 use Rattle.std.specs.Int.{w128}
 use Rattle.std.proofs.lemmas.Int.{to_z-of_z}
-use Rattle.fx_lines.proofs.design.put_above.Goals as goal
+use Rattle.fx_findings.proofs.design.put_above.Goals as goal
 
 -- both numbers are in the range of their type
 pub returns : goal.returns

@@ -1,7 +1,7 @@
 // The lines of peak gains, and of lengths that do not do.
 
 ghost use Rattle.std.specs.Prelude.{◌≡◌, ◌++◌, OnOk};
-ghost use Rattle.fx_lines.specs.Peaks.{
+ghost use Rattle.fx_findings.specs.Peaks.{
   bounds_line,
   gain_line,
   length_line,
@@ -11,11 +11,9 @@ ghost use Rattle.fx_lines.specs.Peaks.{
   worst_line,
 };
 
-use crate::decimals::{PLACES, put_up};
-use crate::pieces::{put_field, put_word};
-use crate::verdict::{put_compared, put_target};
 use fx_block::{Least, LengthWhy};
 use fx_decimal::print_down;
+use fx_lines::{PLACES, put_compared, put_field, put_target, put_up, put_word};
 use fx_nums::Iv;
 use fx_sweep::TargetRange;
 use std::alloc::AllocError;
@@ -86,7 +84,7 @@ pub(crate) fn put_range(text: &mut Vec<u8>, range: TargetRange) -> Result<(), Al
 }
 
 // How raises of bounds end.
-pub(crate) fn put_bounds(text: &mut Vec<u8>, bounds: Least) -> Result<(), AllocError>
+fn put_bounds(text: &mut Vec<u8>, bounds: Least) -> Result<(), AllocError>
     ensures { OnOk result (text.new.items ≡ text.old.items ++ bounds_line bounds) }
 {
     match bounds {
