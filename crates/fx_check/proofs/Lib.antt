@@ -2,5 +2,5 @@ mod FirstFailures
 mod Outputs
 mod Padding
 mod Places
+mod Steps
 mod Sweeps
-mod Tests

@@ -8,6 +8,8 @@ mod numbers;
 mod refusal;
 mod sizes;
 mod targets;
+#[cfg(test)]
+mod tests;
 mod verdict;
 
 pub use judging::Judge;

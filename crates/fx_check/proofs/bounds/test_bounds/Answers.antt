@@ -4,7 +4,7 @@ use Rattle.std.proofs.lemmas.Grind.{common_steps}
 use Rattle.fx_block.specs.Passes.{row_count}
 use Rattle.fx_check.specs.Verdict.{failure_in, told_by}
 use Rattle.fx_check.proofs.FirstFailures.{first_told}
-use Rattle.fx_check.proofs.Tests.{bound}
+use Rattle.fx_check.proofs.Steps.{bound}
 use Rattle.fx_check.proofs.bounds.test_bounds.Goals as goal
 
 pub returns-in_err-test_bound : goal.returns-in_err-test_bound

@@ -1,6 +1,6 @@
 use Rattle.std.proofs.Common.{◌≡◌, None}
 use Rattle.fx_block.specs.Failure.{first_of}
-use Rattle.fx_check.proofs.Tests.{error}
+use Rattle.fx_check.proofs.Steps.{error}
 use Rattle.fx_check.proofs.bounds.test_errors.Given as goal
 
 abbrev pub invariant-loop-o : goal.invariant-loop-o

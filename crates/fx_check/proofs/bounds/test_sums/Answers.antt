@@ -3,7 +3,7 @@ use Rattle.std.specs.Prelude.{Some}
 use Rattle.std.proofs.lemmas.Grind.{common_steps}
 use Rattle.fx_check.specs.Verdict.{failure_in, told_by}
 use Rattle.fx_check.proofs.FirstFailures.{first_told}
-use Rattle.fx_check.proofs.Tests.{sum}
+use Rattle.fx_check.proofs.Steps.{sum}
 use Rattle.fx_check.proofs.bounds.test_sums.Goals as goal
 
 pub returns-in_err-test_sum : goal.returns-in_err-test_sum

@@ -1,6 +1,6 @@
 use Rattle.std.proofs.Common.{◌≡◌, None}
 use Rattle.fx_block.specs.Failure.{first_of}
-use Rattle.fx_check.proofs.Tests.{word}
+use Rattle.fx_check.proofs.Steps.{word}
 use Rattle.fx_check.proofs.bounds.test_words.Given as goal
 
 abbrev pub invariant-loop-i : goal.invariant-loop-i
