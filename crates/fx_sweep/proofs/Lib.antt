@@ -28,3 +28,4 @@ pub mod Sweeping
 pub mod Tested
 pub mod Kept
 pub mod Lines
+pub mod SoFar

@@ -69,6 +69,11 @@ pub record HoldsTarget (k : Kept) (t : ℕ) (net : Net) (start : ℕ → Interva
   pub widths_are : (i : ℕ) → i < net.rows → kept_width k t i ≡ widths net start m i
   pub rests_are : (i : ℕ) → i < net.rows → kept_rest k t i ≡ pos (rest net start m i)
 
+-- so it is for each of these targets, after as many moments as its length
+abbrev pub AreHeld : Kept → Net → List Target → List ℕ → Type 0
+AreHeld k net targets lengths = (t : ℕ) → t < length targets →
+    HoldsTarget k t net (start_of (target_in targets t)) (length_in lengths t)
+
 -- Totals hold these targets of a net, and for each the numbers after as many moments as its length, of which there are
 -- some.
 pub record Filled (k : Kept) (net : Net) (targets : List Target) (lengths : List ℕ) : Type 0 where

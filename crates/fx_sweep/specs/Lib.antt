@@ -13,3 +13,4 @@ pub mod Laws
 pub mod AllTime
 pub mod Kept
 pub mod Filled
+pub mod Series

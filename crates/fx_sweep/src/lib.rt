@@ -2,11 +2,13 @@
 #![tactic(auto)]
 
 mod all_time;
+mod at_length;
 mod filling;
 mod handing;
 mod laws;
 mod limits;
 mod numbers;
+mod series;
 mod sums;
 mod sweep;
 mod target;
@@ -19,7 +21,8 @@ pub use laws::{
     empty_rows_change_nothing, intervals_stay_ordered, targets_have_these_values,
     targets_lie_between, totals_bound, totals_grow,
 };
-pub use limits::{GREATEST_LENGTH, GREATEST_SHIFT, sweep_limits_are_these};
+pub use limits::{GREATEST_LENGTH, GREATEST_SHIFT, MOST_LENGTHS, sweep_limits_are_these};
+pub use series::Series;
 pub use sweep::Sweep;
 pub use target::{Place, RangeAt, Target, TargetRange};
 pub use totals::{Totals, totals_fit};

@@ -25,6 +25,7 @@ ghost use Rattle.fx_math.specs.Sums.{total};
 ghost use Rattle.fx_net.specs.Net.{Net as AnyNet};
 ghost use Rattle.fx_net.specs.Tables.{net_of};
 ghost use Rattle.fx_sweep.specs.Filled.{
+  AreHeld,
   CanBeFilled,
   Filled,
   HoldsTarget,
@@ -112,7 +113,7 @@ impl<const N: usize> Totals<N> {
     }
 
     // Copies the numbers of a sweep as those of one target.
-    fn keep(&mut self, t: usize, sweep: &Sweep<N>, net: &Net<N>)
+    pub(crate) fn keep(&mut self, t: usize, sweep: &Sweep<N>, net: &Net<N>)
         requires target { t < N + PORTS }
         ensures size { self.new.size ≡ N }
         ensures filled { self.new.filled ≡ self.old.filled }
@@ -174,9 +175,7 @@ impl<const N: usize> Totals<N> {
         ensures filled { self.new.filled ≡ self.old.filled }
         ensures range { told_by result
             ≡ first_target_range (net_of net.now) targets.now lengths.now (length targets.now) }
-        ensures held { OnOk result ((t : ℕ) → t < length targets.now →
-            HoldsTarget self.new t (net_of net.now) (start_of (target_in targets.now t))
-            (length_in lengths.now t)) }
+        ensures held { OnOk result (AreHeld self.new (net_of net.now) targets.now lengths.now) }
         ensures made { sweep.new.made ≤ sweep.old.made + moments_of lengths.now (length targets.now) }
     {
         nets_fit(net);
@@ -208,9 +207,18 @@ impl<const N: usize> Totals<N> {
         self.filled = 0;
         self.leading = 0;
         self.fill_targets(sweep, net, targets, lengths)?;
+        self.finish(targets);
+        Ok(())
+    }
+
+    // The numbers of all targets are kept.
+    pub(crate) fn finish(&mut self, targets: &[Target])
+        requires { length targets.now ≤ N + PORTS }
+        ensures { (net : AnyNet) (lengths : List ℕ) → net.rows ≡ N → CanBeFilled N targets.now lengths →
+            AreHeld self.old net targets.now lengths → Filled self.new net targets.now lengths }
+    {
         self.filled = targets.len();
         self.leading = leading_rows(targets);
-        Ok(())
     }
 
     /// How many of the filled targets, from the first on, are the rows in order.

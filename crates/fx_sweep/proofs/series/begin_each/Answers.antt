@@ -1,0 +1,20 @@
+use Rattle.std.proofs.Common.{◌≡◌, ℕ, ◌<◌, ◌∙◌, List, arith, length, subst}
+use Rattle.std.proofs.lemmas.List.{length-set}
+use Rattle.fx_net.specs.Net.{Net}
+use Rattle.fx_sweep.specs.Filled.{length_in}
+use Rattle.fx_sweep.specs.Series.{IsSoFar, KeptAtLength}
+use Rattle.fx_sweep.specs.declared.target.Target.{Target}
+use Rattle.fx_sweep.proofs.SoFar.{set_each}
+use Rattle.fx_sweep.proofs.series.begin_each.Goals as goal
+
+pub loop-l-preserved : goal.loop-l-preserved
+loop-l-preserved g c =
+    let inside : c.loop-l.l < length c.loop-l.parts =
+    omega (arith, c.loop-l-test.true, c.requires.few, c.loop-l.invariant.long) in
+    record {
+      long = length-set c.loop-l.parts c.loop-l.l c.begin.new.self ∙ c.loop-l.invariant.long;
+      begun = λ net targets. set_each c.loop-l.parts c.loop-l.l c.begin.new.self inside
+          (λ k q. IsSoFar q net targets (length_in c.args.lengths.now k) 0 0)
+          (c.loop-l.invariant.begun net targets)
+          (subst (λ n. IsSoFar c.begin.new.self net targets n 0 0) c.length_at.ensures (c.begin.ensures net targets));
+    }
