@@ -15,6 +15,8 @@ mod target;
 #[cfg(test)]
 mod tests;
 mod totals;
+#[cfg(test)]
+mod totals_tests;
 
 pub use all_time::bounds_hold_for_all_time;
 pub use laws::{
