@@ -68,6 +68,7 @@ module _ (n f l t : ℕ) (rs gs ws es rs2 gs2 ws2 es2 : List ℤ) (v : ℤ) (gai
     rows_high = k.rows_high;
     filled_fits = k.filled_fits;
     leading_fits = k.leading_fits;
+    leading_rows = k.leading_rows;
     rounding_count = r.count ∙ k.rounding_count;
     gain_count = g.count ∙ k.gain_count;
     width_count = w.count ∙ k.width_count;

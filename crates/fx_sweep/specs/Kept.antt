@@ -49,7 +49,7 @@ AreUpTo most xs = (k : ℕ) → IsUpTo most (whole_in xs k)
 
 -- the greatest gain and rest, the greatest width, and the greatest rounding: 64 rows with two half steps each
 abbrev pub greatest_gain : ℕ
-greatest_gain = 2 ^ OPERAND_BITS
+greatest_gain = 2 ^ OPERAND_BITS - 1
 
 abbrev pub greatest_sum_of_widths : ℕ
 greatest_sum_of_widths = 2 ^ 76
@@ -75,6 +75,7 @@ pub record KeptFits (k : Kept) : Type 0 where
   pub rows_high : k.size ≤ LARGEST_NET
   pub filled_fits : k.filled ≤ k.size + PORTS
   pub leading_fits : k.leading ≤ k.filled
+  pub leading_rows : k.leading ≤ k.size
   pub rounding_count : length k.roundings ≡ k.size + PORTS
   pub gain_count : length k.input_gains ≡ (k.size + PORTS) * PORTS
   pub width_count : length k.row_widths ≡ (k.size + PORTS) * k.size

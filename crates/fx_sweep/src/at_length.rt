@@ -14,8 +14,9 @@ ghost use Rattle.std.specs.Prelude.{
 ghost use Rattle.fx_eqs.specs.declared.limits.TheConstants.{PORTS};
 ghost use Rattle.fx_net.specs.Net.{Net as AnyNet};
 ghost use Rattle.fx_net.specs.Tables.{net_of};
-ghost use Rattle.fx_sweep.specs.Filled.{CanBeFilled, told_by};
+ghost use Rattle.fx_sweep.specs.Filled.{CanBeFilled, target_in, told_by};
 ghost use Rattle.fx_sweep.specs.Series.{IsDone, IsKeptOn, IsRefusedOn, IsSoFar, for_each, still_wanted};
+ghost use Rattle.fx_sweep.specs.Target.{TargetFits};
 ghost use Rattle.fx_sweep.specs.declared.target.Target.{Target as AnyTarget};
 
 use crate::sweep::Sweep;
@@ -101,7 +102,8 @@ impl<const N: usize> AtLength<N> {
 
     // All targets were swept.
     pub fn finish(&mut self, targets: &[Target])
-        requires { length targets.now ≤ N + PORTS }
+        requires few { length targets.now ≤ N + PORTS }
+        requires fit { (t : ℕ) → t < length targets.now → TargetFits N (target_in targets.now t) }
         ensures { (net : AnyNet) (wanted : ℕ) → net.rows ≡ N →
             CanBeFilled N targets.now (for_each targets.now wanted) →
             IsSoFar self.old net targets.now wanted (length targets.now) 0 → IsDone self.new net targets.now wanted }

@@ -213,7 +213,8 @@ impl<const N: usize> Totals<N> {
 
     // The numbers of all targets are kept.
     pub(crate) fn finish(&mut self, targets: &[Target])
-        requires { length targets.now ≤ N + PORTS }
+        requires few { length targets.now ≤ N + PORTS }
+        requires fit { (t : ℕ) → t < length targets.now → TargetFits N (target_in targets.now t) }
         ensures { (net : AnyNet) (lengths : List ℕ) → net.rows ≡ N → CanBeFilled N targets.now lengths →
             AreHeld self.old net targets.now lengths → Filled self.new net targets.now lengths }
     {
@@ -225,6 +226,7 @@ impl<const N: usize> Totals<N> {
     pub fn rows(&self) -> usize
         ensures value { result ≡ self.now.leading }
         ensures few { result ≤ self.now.filled }
+        ensures rows { result ≤ N }
     {
         self.leading
     }
@@ -239,8 +241,8 @@ impl<const N: usize> Totals<N> {
         self.roundings[t]
     }
 
-    /// The gain of input `j`, below `PORTS`, for the target at place `t` of those that are filled, times 2^64. It is at
-    /// most 2^88.
+    /// The gain of input `j`, below `PORTS`, for the target at place `t` of those that are filled, times 2^64. It is
+    /// below 2^88.
     pub fn input_gain(&self, t: usize, j: usize) -> i128
         requires target { t < self.now.filled }
         requires input { j < PORTS }
@@ -261,8 +263,7 @@ impl<const N: usize> Totals<N> {
         self.widths[place_in(t, N, i, N + PORTS)]
     }
 
-    /// The rest of row `i`, below N, for the target at place `t` of those that are filled, times 2^64. It is at most
-    /// 2^88.
+    /// The rest of row `i`, below N, for the target at place `t` of those that are filled, times 2^64. It is below 2^88.
     pub fn rest(&self, t: usize, i: usize) -> i128
         requires target { t < self.now.filled }
         requires row { i < N }
