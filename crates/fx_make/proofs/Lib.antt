@@ -1,4 +1,5 @@
 mod AtRest
+mod FormatsOf
 mod Listed
 mod OfForm
 mod Outputs

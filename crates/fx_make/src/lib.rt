@@ -3,7 +3,9 @@
 
 mod caps;
 mod fail;
+mod joint;
 mod lengths;
+mod quantising;
 mod refusal;
 mod structure;
 mod targets;
