@@ -1,6 +1,6 @@
 -- One number more in a sum.
 use Rattle.std.proofs.Common.{◌≡◌, ℕ, suc, ◌+◌, ◌*◌, ap₂, ◌∙◌, arith}
-use Rattle.std.proofs.Math.IntN.{ℤ, pos, ◌+ℤ◌}
+use Rattle.std.proofs.Math.IntN.{ℤ, ◌+ℤ◌}
 use Rattle.std.proofs.lemmas.Int.{ints}
 use Rattle.fx_math.specs.Sums.{total}
 use Rattle.fx_sweep.specs.Kept.{IsUpTo}

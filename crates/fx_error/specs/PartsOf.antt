@@ -1,7 +1,8 @@
 -- The parts of the total of a target.
-use Rattle.std.specs.Prelude.{◌≡◌, ℕ, ◌+ℤ◌}
+use Rattle.std.specs.Prelude.{◌≡◌, ℕ, ◌-◌, ◌^◌, ℤ, ◌+ℤ◌}
 use Rattle.fx_nums.specs.Interval.{Interval}
 use Rattle.fx_net.specs.Net.{Net}
+use Rattle.fx_sweep.specs.Kept.{IsUpTo}
 use Rattle.fx_sweep.specs.Totals.{input_part, rest_part, rounding, target_total, width_part}
 use Rattle.fx_error.specs.declared.parts.Parts.{Parts}
 
@@ -12,3 +13,14 @@ pub record ArePartsOf (net : Net) (start : ℕ → Interval) (m : ℕ) (bounds r
   pub difference_is : parts.difference ≡ input_part net start m bounds +ℤ width_part net start m rows
   pub rest_is : parts.rest ≡ rest_part net start m rows
   pub whole : parts.rounding +ℤ parts.difference +ℤ parts.rest ≡ target_total net start m bounds rows
+
+-- what the parts add up to
+abbrev pub whole_of : Parts → ℤ
+whole_of parts = parts.rounding +ℤ parts.difference +ℤ parts.rest
+
+-- none is negative, and they and their sum are below 2 ^ 126
+pub record PartsFit (parts : Parts) : Type 0 where
+  pub rounding : IsUpTo (2 ^ 126 - 1) parts.rounding
+  pub difference : IsUpTo (2 ^ 126 - 1) parts.difference
+  pub rest : IsUpTo (2 ^ 126 - 1) parts.rest
+  pub whole : IsUpTo (2 ^ 126 - 1) (whole_of parts)

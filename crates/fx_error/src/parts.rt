@@ -17,7 +17,7 @@ ghost use Rattle.fx_sweep.specs.Kept.{
   kept_total,
   kept_width,
 };
-ghost use Rattle.fx_error.specs.PartsOf.{ArePartsOf};
+ghost use Rattle.fx_error.specs.PartsOf.{ArePartsOf, PartsFit};
 
 use fx_eqs::PORTS;
 use fx_sweep::{Totals, totals_fit};
@@ -51,6 +51,7 @@ fn bounded(number: i128, bounds: &[i64], i: usize) -> i128
     requires bounds { AreBounds bounds.now }
     ensures value { result ≡ number *ℤ pos (bound_in bounds.now i) }
     ensures fits { IsUpTo (2 ^ 119) result }
+    ensures grown { (most : ℕ) → IsUpTo most number → IsUpTo (most * 2 ^ 31) result }
 {
     product(number, bounds[i])
 }
@@ -86,7 +87,7 @@ fn width_part<const N: usize>(t: &Totals<N>, target: usize, x: &[i64]) -> i128
     requires few { N ≤ 64 }
     requires rows { AreBounds x.now }
     ensures value { result ≡ total N (λ i. kept_width t.now target i *ℤ pos (bound_in x.now i)) }
-    ensures fits { IsUpTo (N * 2 ^ 119) result }
+    ensures fits { IsUpTo (N * 2 ^ 107) result }
 {
     let mut all = 0;
     for i in 0..N {
@@ -129,6 +130,7 @@ pub fn split<const N: usize>(
         (bound_in x.now) result }
     ensures total { result.rounding +ℤ result.difference +ℤ result.rest
         ≡ kept_total t.now target (bound_in bounds.now) (bound_in x.now) }
+    ensures fits { PartsFit result }
 {
     totals_fit(t);
     let difference = sum(input_part(t, target, bounds), width_part(t, target, x));

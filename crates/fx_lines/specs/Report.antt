@@ -1,5 +1,5 @@
 -- The lines of a report: the formats of a program with the bounds of a certificate, and the parts of its errors.
-use Rattle.std.specs.Prelude.{ℕ, ◌+◌, ◌-◌, ◌^◌, ℤ, pos, ◌+ℤ◌, ◌-ℤ◌, List, [], ◌∷◌, ◌++◌, length, codes}
+use Rattle.std.specs.Prelude.{ℕ, ◌+◌, ◌-◌, ◌^◌, ℤ, pos, ◌-ℤ◌, List, [], ◌∷◌, ◌++◌, length, codes}
 use Rattle.std.specs.Prelude.{slice_index_or}
 use Rattle.std.specs.Fmt.{decimal, signed_decimal}
 use Rattle.fx_math.specs.Sums.{joined}
@@ -8,8 +8,8 @@ use Rattle.fx_files.specs.Filter.{Filter}
 use Rattle.fx_files.specs.declared.formats.OutputFormat.{OutputFormat}
 use Rattle.fx_code.specs.Code.{Code, row_at}
 use Rattle.fx_cert.specs.Certificate.{Certificate}
-use Rattle.fx_sweep.specs.Kept.{IsUpTo}
 use Rattle.fx_block.specs.Passes.{bound_at}
+use Rattle.fx_error.specs.PartsOf.{whole_of}
 use Rattle.fx_error.specs.declared.parts.Parts.{Parts}
 use Rattle.fx_lines.specs.Verdict.{up_part}
 
@@ -29,17 +29,6 @@ abbrev pub row_lines : Code → Certificate → List ℕ
 row_lines p c = joined (length p.rows) (row_line p c)
 
 -- ---- outputs
-
--- what the parts add up to
-abbrev pub whole_of : Parts → ℤ
-whole_of parts = parts.rounding +ℤ parts.difference +ℤ parts.rest
-
--- none is negative, and they and their sum are below 2 ^ 126
-pub record PartsFit (parts : Parts) : Type 0 where
-  pub rounding : IsUpTo (2 ^ 126 - 1) parts.rounding
-  pub difference : IsUpTo (2 ^ 126 - 1) parts.difference
-  pub rest : IsUpTo (2 ^ 126 - 1) parts.rest
-  pub whole : IsUpTo (2 ^ 126 - 1) (whole_of parts)
 
 -- the parts and their sum, each rounded up in the last place
 abbrev pub first_parts : Parts → List ℕ

@@ -5,8 +5,8 @@ ghost use Rattle.fx_math.specs.Words.{WidthFits};
 ghost use Rattle.fx_msb.specs.Widths.{IsBound};
 ghost use Rattle.fx_nums.specs.Fraction.{OverTen};
 ghost use Rattle.fx_block.specs.Passes.{bound_at};
+ghost use Rattle.fx_error.specs.PartsOf.{PartsFit, whole_of};
 ghost use Rattle.fx_lines.specs.Report.{
-  PartsFit,
   first_parts,
   last_parts,
   parts_line,
@@ -15,7 +15,6 @@ ghost use Rattle.fx_lines.specs.Report.{
   report_lines,
   row_line,
   row_lines,
-  whole_of,
 };
 
 use crate::decimals::put_up;

@@ -1,4 +1,4 @@
-use Rattle.std.proofs.Common.{◌≡◌, ℕ, ◌*◌, ◌^◌, pos}
+use Rattle.std.proofs.Common.{◌≡◌, ◌*◌, ◌^◌, pos}
 use Rattle.std.proofs.Math.IntN.{pos, ◌*ℤ◌}
 use Rattle.fx_math.specs.Sums.{total}
 use Rattle.fx_sweep.specs.Kept.{IsUpTo, bound_in, kept_gain}

@@ -1,6 +1,6 @@
-use Rattle.std.proofs.Common.{◌≡◌, ◌+◌, ◌*◌, ◌^◌, arith, rules, ap, sym, ◌∙◌, subst, FitsSigned, to_z}
+use Rattle.std.proofs.Common.{◌≡◌, ◌+◌, ◌*◌, ◌^◌, rules, ap, sym, ◌∙◌, subst, FitsSigned, to_z}
 use mir.Syntax.{w128}
-use Rattle.std.proofs.lemmas.Int.{ints, to_z-of_z}
+use Rattle.std.proofs.lemmas.Int.{to_z-of_z}
 use Rattle.std.proofs.Math.IntN.{pos, ◌+ℤ◌, ◌*ℤ◌}
 use Rattle.fx_sweep.specs.Kept.{IsUpTo, bound_in, kept_rest}
 use Rattle.fx_error.proofs.Adding.{one_more_fits, one_more_total}

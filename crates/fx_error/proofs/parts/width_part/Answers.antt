@@ -1,6 +1,6 @@
-use Rattle.std.proofs.Common.{◌≡◌, ◌+◌, ◌*◌, ◌^◌, arith, rules, ap, sym, ◌∙◌, subst, FitsSigned, to_z}
+use Rattle.std.proofs.Common.{◌≡◌, ◌+◌, ◌*◌, ◌^◌, rules, ap, sym, ◌∙◌, subst, FitsSigned, to_z}
 use mir.Syntax.{w128}
-use Rattle.std.proofs.lemmas.Int.{ints, to_z-of_z}
+use Rattle.std.proofs.lemmas.Int.{to_z-of_z}
 use Rattle.std.proofs.Math.IntN.{pos, ◌+ℤ◌, ◌*ℤ◌}
 use Rattle.fx_sweep.specs.Kept.{IsUpTo, bound_in, kept_width}
 use Rattle.fx_error.proofs.Adding.{one_more_fits, one_more_total}
@@ -18,12 +18,14 @@ loop-i-preserved g c =
     let e : c.sum-all.result ≡ to_z w128 c.loop-i.all-bits +ℤ c.bounded.result =
     c.sum-all.ensures.value ∙ ap (λ x. to_z w128 c.loop-i.all-bits +ℤ x)
     (to_z-of_z w128 c.bounded.result product_fits) in
+    let number_small = subst (λ z. IsUpTo (2 ^ 76) z) (sym (to_z-of_z w128 c.width.result number_fits))
+    c.width.ensures.fits in
     let s = to_z-of_z w128 c.sum-all.result sum_fits in
     record {
       value = s ∙ one_more_total c.loop-i.i (λ i.
           kept_width c.args.t.now c.args.target i *ℤ pos (bound_in c.args.x.now i)) _ _ _ e
           c.loop-i.invariant.value here;
-      fits = subst (λ x. IsUpTo ((c.loop-i.i + 1) * 2 ^ 119) x) (sym s)
-          (one_more_fits c.loop-i.i (2 ^ 119) (to_z w128 c.loop-i.all-bits) c.bounded.result c.sum-all.result e
-          c.loop-i.invariant.fits c.bounded.ensures.fits);
+      fits = subst (λ x. IsUpTo ((c.loop-i.i + 1) * 2 ^ 107) x) (sym s)
+          (one_more_fits c.loop-i.i (2 ^ 107) (to_z w128 c.loop-i.all-bits) c.bounded.result c.sum-all.result e
+          c.loop-i.invariant.fits (c.bounded.ensures.grown (2 ^ 76) number_small));
     }
