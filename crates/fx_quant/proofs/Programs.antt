@@ -1,9 +1,11 @@
 -- A design as a program: its parts are never refused.
 use Rattle.std.proofs.Common.{◌≡◌, ℕ, zero, suc, ◌+◌, ◌-◌, ◌<◌, ◌≤◌, Bool, true, false, List, [], ◌∷◌, ◌++◌, map}
 use Rattle.std.proofs.Common.{take, length, All, IsTrue, Option, None, refl, arith, sym, ap, subst, ◌∙◌, length-append}
+use Rattle.std.proofs.Common.{inl, inr}
 use Rattle.std.specs.Prelude.{slice_index, slice_index_or}
+use Rattle.std.proofs.lemmas.Bool.{cases_lt}
 use Rattle.std.proofs.lemmas.Bool.Decides.{nat_tests}
-use Rattle.std.proofs.lemmas.List.{map_push, take_more, take_all}
+use Rattle.std.proofs.lemmas.List.{map_push, take_more, take_all, get_or_append_left, get_or_push}
 use Rattle.std.proofs.lemmas.List.Elements.{All-nil, All-push, All-get_or}
 use Rattle.std.proofs.lemmas.List.Sums.{sum_by_push, sum_by_more, sum_by-take-le}
 use Rattle.fx_math.specs.Answers.{told}
@@ -16,6 +18,7 @@ use Rattle.fx_code.specs.declared.fault.ProgramFault.{ProgramFault}
 use Rattle.fx_code.specs.declared.term.CodeTerm.{CodeTerm}
 use Rattle.fx_code.proofs.Fitting.{start_passes, row_passes}
 use Rattle.fx_quant.specs.Design.{Quantised, sized, sized_rows, last_places, as_program, WidthsFit, DesignFits}
+use Rattle.fx_quant.specs.Design.{HasShape}
 use Rattle.fx_quant.specs.Design.{term_count}
 
 -- ---- what is left of a fault
@@ -131,10 +134,45 @@ row_unrefused d p widths i h fits sizes before =
 
 -- ---- the whole program
 
-pub rows_are : (d : Quantised) (accumulator : ℕ) (inputs widths : List ℕ) (outputs : ℕ) →
+rows_are : (d : Quantised) (accumulator : ℕ) (inputs widths : List ℕ) (outputs : ℕ) →
     bare_rows (as_program d accumulator inputs widths outputs) ≡ d.rows
 rows_are d accumulator inputs widths outputs =
     sized_bare widths d.rows (length d.rows) (omega arith) ∙ take_all (length d.rows) d.rows (omega arith)
+
+row_at_sized : (widths : List ℕ) (rows : List BareRow) (n i : ℕ) (r : Row) → i < n →
+    slice_index_or (sized_rows widths rows n) i r ≡ sized (slice_index widths i) (bare_at rows i)
+row_at_sized widths rows zero i r h = absurd (omega (arith, h))
+row_at_sized widths rows (suc n) i r h =
+    let row = sized (slice_index widths n) (bare_at rows n) in
+    let count = sized_count widths rows n in
+    elim (cases_lt i n) [
+      | inl below ↦ get_or_append_left (sized_rows widths rows n) (row ∷ []) r i (omega (arith, below, count))
+          ∙ row_at_sized widths rows n i r below
+      | inr at ↦ (let same : n ≡ i = omega (arith, h, at) in
+          get_or_push (sized_rows widths rows n) row r i (count ∙ same)
+          ∙ ap (λ k. sized (slice_index widths k) (bare_at rows k)) same)
+    ]
+
+place_at : (rows outputs n o : ℕ) → o < n → slice_index_or (last_places rows outputs n) o 0 ≡ rows - outputs + o
+place_at rows outputs zero o h = absurd (omega (arith, h))
+place_at rows outputs (suc n) o h =
+    let count = places_count rows outputs n in
+    elim (cases_lt o n) [
+      | inl below ↦ get_or_append_left (last_places rows outputs n) ((rows - outputs + n) ∷ []) 0 o
+          (omega (arith, below, count)) ∙ place_at rows outputs n o below
+      | inr at ↦ (let same : n ≡ o = omega (arith, h, at) in
+          get_or_push (last_places rows outputs n) (rows - outputs + n) 0 o (count ∙ same)
+          ∙ ap (λ k. rows - outputs + k) same)
+    ]
+
+pub has_shape : (d : Quantised) (accumulator : ℕ) (inputs widths : List ℕ) (outputs : ℕ) →
+    HasShape d widths outputs (as_program d accumulator inputs widths outputs)
+has_shape d accumulator inputs widths outputs = record {
+  rows_are = rows_are d accumulator inputs widths outputs;
+  row_widths = λ i h. ap (λ (r : Row). r.width) (row_at_sized widths d.rows (length d.rows) i _ h);
+  output_count = places_count (length d.rows) outputs outputs;
+  places = λ o h. place_at (length d.rows) outputs outputs o h;
+}
 
 pub is_whole : (d : Quantised) (accumulator : ℕ) (inputs widths : List ℕ) (outputs : ℕ) → DesignFits d → 1 ≤ outputs →
     IsWhole (as_program d accumulator inputs widths outputs)

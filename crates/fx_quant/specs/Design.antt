@@ -1,11 +1,12 @@
 -- Designs: the rows of integer code before their widths are known.
 use Rattle.std.specs.Prelude.{◌≡◌, ℕ, ◌+◌, ◌-◌, ◌<◌, ◌≤◌, IsTrue, List, [], ◌∷◌, length, All, sum_by, slice_index}
+use Rattle.std.specs.Prelude.{slice_index_or}
 use Rattle.fx_math.specs.Sums.{joined}
 use Rattle.fx_math.specs.Words.{WidthFits, is_accumulator}
 use Rattle.fx_eqs.specs.declared.limits.TheConstants.{PORTS}
-use Rattle.fx_code.specs.Code.{BareRow, Row, Code, OldIsThere}
+use Rattle.fx_code.specs.Code.{BareRow, Row, Code, OldIsThere, row_at}
 use Rattle.fx_code.specs.Fits.{TermFits, ReadsFit}
-use Rattle.fx_code.specs.NetRows.{bare_at}
+use Rattle.fx_code.specs.NetRows.{bare_at, bare_rows}
 use Rattle.fx_code.specs.declared.limits.TheConstants.{CODE_ROWS, CODE_TERMS, LONGEST_SHIFT}
 use Rattle.fx_code.specs.declared.term.CodeTerm.{CodeTerm}
 
@@ -37,6 +38,13 @@ as_program d accumulator inputs widths outputs = record {
   rows = sized_rows widths d.rows (length d.rows);
   outputs = last_places (length d.rows) outputs outputs;
 }
+
+-- a program with the rows of a design: how wide each row is, and which rows are put out
+pub record HasShape (d : Quantised) (widths : List ℕ) (outputs : ℕ) (p : Code) : Type 0 where
+  pub rows_are : bare_rows p ≡ d.rows
+  pub row_widths : (i : ℕ) → i < length d.rows → (row_at p i).width ≡ slice_index_or widths i 0
+  pub output_count : length p.outputs ≡ outputs
+  pub places : (o : ℕ) → o < outputs → slice_index_or p.outputs o 0 ≡ length d.rows - outputs + o
 
 -- a width for each input that may be read and for each row, all within the limits; accumulators that are listed, no
 -- shorter than those of the design

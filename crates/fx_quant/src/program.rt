@@ -3,9 +3,9 @@
 ghost use Rattle.std.specs.Prelude.{◌≡◌, ◌<◌, ◌≤◌, ◌+◌, ◌-◌, ◌++◌, [], ◌∷◌, length, true, IfOk, OnOk};
 ghost use Rattle.fx_code.specs.Code.{IsWhole};
 ghost use Rattle.fx_code.specs.Limits.{is_memory};
-ghost use Rattle.fx_code.specs.NetRows.{bare_rows};
 ghost use Rattle.fx_quant.specs.Design.{
   DesignFits,
+  HasShape,
   OutputsFit,
   WidthsFit,
   as_program,
@@ -136,7 +136,7 @@ impl Design {
         requires widths { WidthsFit self.now accumulator input_widths.now widths.now }
         requires outputs { OutputsFit self.now outputs }
         ensures ok { IfOk result (λ p. p ≡ as_program self.now accumulator input_widths.now widths.now outputs) }
-        ensures rows { IfOk result (λ p. bare_rows p ≡ self.now.rows) }
+        ensures shape { IfOk result (HasShape self.now widths.now outputs) }
         ensures whole { IfOk result (λ p. 1 ≤ outputs → IsWhole p) }
     {
         let mut program = self.start(alloc, accumulator, input_widths, widths)?;
