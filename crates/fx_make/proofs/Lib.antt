@@ -1,4 +1,5 @@
 mod AtRest
+mod FirstLength
 mod FormatsOf
 mod Listed
 mod OfForm

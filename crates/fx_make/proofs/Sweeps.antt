@@ -1,7 +1,9 @@
 -- What sweeps of the padded net tell of a candidate's rows.
 use Rattle.std.proofs.Common.{◌≡◌, ◌⊎◌, ℕ, zero, suc, ◌+◌, ◌-◌, ◌<◌, ◌≤◌, length, arith, refl, ap, ap₂, sym, ◌∙◌, subst}
 use Rattle.std.proofs.Common.{inl, inr, cond, replicate, get_or, List}
-use Rattle.std.proofs.Math.IntN.{ℤ}
+use Rattle.std.proofs.Math.IntN.{ℤ, pos}
+use Rattle.std.specs.Int.Signed.{◌≤ℤ◌}
+use Rattle.std.proofs.lemmas.Int.{ints}
 use Rattle.std.specs.Prelude.{Option, Some, None, option_map, unsigned_abs, ◌^◌}
 use Rattle.std.specs.Option.{option_or}
 use mathlib.Core.Path.{fun_ext}
@@ -10,6 +12,8 @@ use Rattle.std.proofs.lemmas.List.{get_or-replicate}
 use Rattle.fx_math.specs.Division.{ceil_div}
 use Rattle.fx_nums.specs.declared.limits.TheConstants.{SCALE_BITS}
 use Rattle.fx_eqs.specs.Fits.{EquationsFit}
+use Rattle.fx_keys.specs.Keys.{IsWithin, range_of}
+use Rattle.fx_keys.specs.declared.key.Key.TheVariants as key
 use Rattle.fx_files.specs.Filter.{Filter}
 use Rattle.fx_files.specs.Fits.{FilterFits}
 use Rattle.fx_net.specs.Rows.{put_rows}
@@ -17,6 +21,7 @@ use Rattle.fx_sweep.specs.Filled.{AreLeading, Filled, first_target_range, length
 use Rattle.fx_sweep.specs.Kept.{Kept, kept_total}
 use Rattle.fx_sweep.specs.Padding.{EmptyRowsChangeNothing, HasSameNumbers}
 use Rattle.fx_sweep.specs.Range.{first_range_in}
+use Rattle.fx_sweep.specs.Series.{CanBeSeries}
 use Rattle.fx_sweep.specs.Target.{TargetFits, start_of}
 use Rattle.fx_sweep.specs.Totals.{target_total}
 use Rattle.fx_sweep.specs.declared.target.RangeAt.{RangeAt}
@@ -99,6 +104,31 @@ module _ (f : Filter) (d : Quantised) (kept : FilterFits f) (system : EquationsF
       length_in (replicate (length (targets_of f d.rows)) m) t ≡ m
   each_length m t l =
       get_or-replicate (length (targets_of f d.rows)) t m 0 (let count = targets_long f d.rows in omega (arith, l, count))
+
+  in_larger : (target : Target) → TargetFits (candidate_count f d.rows) target → TargetFits n target
+  in_larger (Row t) h = omega (arith, room, h)
+  in_larger (Pair code original shift) h = (omega (arith, room, h.0), omega (arith, room, h.1), h.2, h.3)
+
+  -- all targets can be swept for all lengths
+  pub can_be_series : CanBeSeries n (targets_of f d.rows) f.settings.lengths
+  can_be_series =
+      let count = targets_long f d.rows in
+      let outputs = kept.outputs_high in
+      let few : length f.settings.lengths ≤ 8 = kept.settings.lengths.few in
+      record {
+        few = omega (arith, count, outputs, room);
+        targets_fit = λ t l.
+            (let inside : t < target_count f d.rows = omega (arith, count, l) in
+            rw (target_listed f d.rows t inside) (in_larger (target_at f d.rows t)
+            (target_fits f d.rows kept system own.outputs t inside)));
+        few_lengths = few;
+        some = λ l h. (let within : IsWithin (range_of key.Lengths) (pos (get_or f.settings.lengths l 0)) =
+            kept.settings.lengths.each l 0 h in
+            let low : pos 1 ≤ℤ pos (get_or f.settings.lengths l 0) = within.0 in omega (arith, ints, low));
+        short = λ l h. (let within : IsWithin (range_of key.Lengths) (pos (get_or f.settings.lengths l 0)) =
+            kept.settings.lengths.each l 0 h in
+            let high : pos (get_or f.settings.lengths l 0) ≤ℤ pos 4096 = within.1 in omega (arith, ints, high));
+      }
 
   -- ---- ranges
 

@@ -10,6 +10,7 @@ use Rattle.std.proofs.lemmas.Int.{ints}
 use Rattle.fx_files.specs.Filter.{Filter}
 use Rattle.fx_code.specs.Code.{BareRow}
 use Rattle.fx_sweep.specs.declared.target.RangeAt.{RangeAt}
+use Rattle.fx_sweep.specs.declared.target.TargetRange.{TargetRange}
 use Rattle.fx_block.specs.Candidate.{candidate_range, candidate_total, first_above, trial, with_bounds, with_errors}
 use Rattle.fx_block.specs.Candidate.{with_range}
 use Rattle.fx_block.specs.Candidate.Trial.{Passed}
@@ -22,7 +23,8 @@ use Rattle.fx_make.specs.Candidates.{trial_fail}
 use Rattle.fx_make.specs.Lengths.{TellsRaises, TellsTrial, above_fail, first_above_fail, length_fail, least_fail}
 use Rattle.fx_make.specs.Lengths.{raises_of}
 use Rattle.fx_make.specs.declared.fail.Fail.{Fail}
-use Rattle.fx_make.specs.declared.fail.Fail.TheVariants.{Over, Slow, Error}
+use Rattle.fx_make.specs.declared.fail.Fail.TheVariants.{Over, Range, Slow, Error}
+use Rattle.fx_make.proofs.Sweeps.{told_range}
 
 -- ---- raises
 
@@ -174,3 +176,23 @@ module _ (f : Filter) (rows : List BareRow) (m : ℕ) where
             (sym here ∙ passes);
         errors = λ passes o l. put passes o l ∙ same o l;
       }
+
+  -- ---- a target that meets a range
+
+  range_fail : (found : Option (ℕ × RangeAt)) (range : TargetRange) → Some range ≡ told_range found →
+      Some (Range range) ≡ trial_fail (with_range f rows m found)
+  range_fail (Some found) range h =
+      let same : range ≡ record { target = found.0; at = found.1 } = cc in ap (λ r. Some (Range r)) same
+  range_fail None range h = cc
+
+  pub told_by_range : (range : TargetRange) (x : ℕ → ℕ) (e : ℕ → ℤ) →
+      Some range ≡ told_range (candidate_range f rows m) → TellsTrial f rows m (Some (Range range)) x e
+  told_by_range range x e h = record {
+    told = range_fail (candidate_range f rows m) range h;
+    bounds = λ never. (let no : Some (Range range) ≡ None = never in cc);
+    errors = λ never o l. (let no : Some (Range range) ≡ None = never in cc);
+  }
+
+pub no_range : (found : Option (ℕ × RangeAt)) → None ≡ told_range found → found ≡ None
+no_range (Some found) h = cc
+no_range None h = refl

@@ -1,7 +1,8 @@
 -- How the trial of a candidate's rows fails for a length, and the first length for which it does not.
-use Rattle.std.specs.Prelude.{◌≡◌, ℕ, ◌+◌, ◌<◌, ℤ, pos, List, length, Option, Some, None, is_none}
+use Rattle.std.specs.Prelude.{◌≡◌, ℕ, ◌+◌, ◌<◌, nat_lt, cond, ℤ, pos, slice_index_or, List, length, Option, Some, None, is_none}
 use Rattle.fx_files.specs.Filter.{Filter}
 use Rattle.fx_code.specs.Code.{BareRow}
+use Rattle.fx_sweep.specs.Filled.{length_in}
 use Rattle.fx_sweep.specs.Kept.{Kept, kept_total}
 use Rattle.fx_block.specs.Candidate.{candidate_count, candidate_net, candidate_total, cap_of, first_above, trial}
 use Rattle.fx_block.specs.Candidate.Trial.{Passed}
@@ -71,3 +72,24 @@ pub record TellsTrial (f : Filter) (rows : List BareRow) (m : ℕ) (fail : Optio
     pub told : fail ≡ length_fail f rows m
     pub bounds : fail ≡ None → trial f rows m ≡ Passed x
     pub errors : fail ≡ None → (o : ℕ) → o < length f.outputs → e o ≡ candidate_total f rows m x o
+
+-- ---- what is told of all lengths
+
+-- how many lengths failed before the first that passes, or of n where none does
+abbrev pub failed_count : ℕ → Option ℕ → ℕ
+failed_count n None = n
+failed_count n (Some l) = l
+
+-- what is told at a place: how the trial fails for its length, if that was tried and failed
+abbrev pub fail_at : Filter → List BareRow → Option ℕ → ℕ → Option Fail
+fail_at f rows first l =
+    cond (nat_lt l (failed_count (length f.settings.lengths) first))
+    (length_fail f rows (length_in f.settings.lengths l)) None
+
+abbrev pub fail_in : List (Option Fail) → ℕ → Option Fail
+fail_in fails l = slice_index_or fails l None
+
+-- the trial passes with these bounds and these totals of the outputs' pairs
+pub record HasPassing (f : Filter) (rows : List BareRow) (m : ℕ) (x : ℕ → ℕ) (e : ℕ → ℤ) : Type 0 where
+  pub passed : trial f rows m ≡ Passed x
+  pub errors : (o : ℕ) → o < length f.outputs → e o ≡ candidate_total f rows m x o

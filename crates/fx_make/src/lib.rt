@@ -11,7 +11,9 @@ mod structure;
 mod targets;
 #[cfg(test)]
 mod tests;
+mod trying;
 
 pub use fail::{Fail, Failed};
 pub use refusal::StructureFault;
 pub use structure::build_structure;
+pub use trying::try_lengths;
