@@ -1,5 +1,5 @@
 -- What the answers of the plans have in common, and what a run gives of them that fails before its text.
-use Rattle.std.proofs.Common.{◌≡◌, ◌⊎◌, inl, inr, ℕ, nat_le, Bool, true, false, cond, IsTrue, arith, List, []}
+use Rattle.std.proofs.Common.{◌≡◌, ◌⊎◌, inl, inr, ℕ, ℤ, nat_le, Bool, true, false, cond, IsTrue, arith, List, []}
 use Rattle.std.proofs.Common.{◌∷◌, length, Option, Some, None, Result, Ok, Err, refl, sym, ap, subst, ◌∙◌}
 use Rattle.std.proofs.lemmas.List.{append-nil}
 use Rattle.std.specs.FinMap.{get}
@@ -7,23 +7,22 @@ use Rattle.fx_io.specs.Outside.{Outside, Output}
 use Rattle.fx_io.specs.Shelf.{Files}
 use Rattle.fx_io.specs.declared.shelf.IoFault.{IoFault}
 use Rattle.fx_io.specs.declared.shelf.IoFault.TheVariants as io
+use Rattle.fx_block.specs.Failure.{Failure, first_failure}
+use Rattle.fx_cert.specs.Certificate.{Certificate}
+use Rattle.fx_cert.specs.Lines.{lines_of}
+use Rattle.fx_cert.specs.Reading.{certificate_in}
+use Rattle.fx_cert.specs.declared.fault.CertFault.{CertFault}
 use Rattle.fx_code.specs.Code.{Code}
 use Rattle.fx_files.specs.Reading.{filter_of_bytes}
-use Rattle.fx_files.specs.Filter.{Filter as WholeFilter}
+use Rattle.fx_files.specs.Filter.{Filter}
 use Rattle.fx_keys.specs.declared.fault.FilterFault.{FilterFault}
-use Rattle.fx_text.specs.Reading as general
+use Rattle.fx_text.specs.Reading.{code_in}
 use Rattle.fx_text.specs.declared.fault.CodeFault.{CodeFault}
 use Rattle.fx_sim.specs.Simulation.{simulation}
 use Rattle.fx_sim.specs.declared.fault.SampleFault.{SampleFault}
 use Rattle.fx_tool.specs.Answer.{Answer, absent, Delivers}
-use Rattle.fx_tool.specs.Certificate.{Certificate}
-use Rattle.fx_tool.specs.Check.{judged, by_certificate, judged_bytes, after_code, after_filter, check_plan}
-use Rattle.fx_tool.specs.Claim.{certificate_in}
-use Rattle.fx_tool.specs.CodeReading.{code_in}
+use Rattle.fx_tool.specs.Check.{by_failure, judged, certified, code_plan, filter_plan, check_plan}
 use Rattle.fx_tool.specs.Command.{Command, command_of}
-use Rattle.fx_tool.specs.ConstantFilter.{ConstantFilter}
-use Rattle.fx_tool.specs.FilterReading.{filter_in}
-use Rattle.fx_tool.specs.Inequalities.{first_refusal}
 use Rattle.fx_tool.specs.Operand.{limit_of, too_long}
 use Rattle.fx_tool.specs.Plan.{Plan, Ends, Reads, by_content, when_short, answer_by, OfAnswer}
 use Rattle.fx_tool.specs.Running.{plan_of, operands_to, names_to, plan_to, answer_of, with_placed, FollowsWords}
@@ -34,10 +33,7 @@ use Rattle.fx_tool.specs.Status.{is_spoken}
 use Rattle.fx_tool.specs.Writing.{GrowsBy}
 use Rattle.fx_tool.specs.declared.command.Verb.{Verb}
 use Rattle.fx_tool.specs.declared.command.Verb.TheVariants.{Check, Show, Simulate}
-use Rattle.fx_tool.specs.declared.inequality.Refusal.{Refusal}
 use Rattle.fx_tool.specs.declared.operand.Operand.{Operand}
-use Rattle.fx_tool.specs.declared.operand.Operand.TheVariants.{Filter, Samples, BuiltFilter, BuiltCode}
-use Rattle.fx_tool.specs.declared.operand.Operand.TheVariants.{BuiltCertificate}
 use Rattle.fx_tool.specs.declared.operand.Operand.TheVariants as operand
 use Rattle.fx_tool.specs.declared.status.Status.{Status}
 use Rattle.fx_tool.specs.declared.status.Status.TheVariants.{ReadFault, NoMemory}
@@ -52,7 +48,7 @@ abbrev AllSpoken : Plan → Type 0
 AllSpoken (Ends a) = IsSpoken a
 AllSpoken (Reads next) = (content : List ℕ) → AllSpoken (next content)
 
-shown_spoken : (r : Result WholeFilter FilterFault) → IsSpoken (shown r)
+shown_spoken : (r : Result Filter FilterFault) → IsSpoken (shown r)
 shown_spoken (Ok filter) = record { status = refl; placed = refl }
 shown_spoken (Err fault) = record { status = refl; placed = refl }
 
@@ -64,30 +60,30 @@ samples_spoken : (r : Result Code CodeFault) → AllSpoken (samples_plan r)
 samples_spoken (Ok p) = λ samples. outputs_spoken (simulation p samples)
 samples_spoken (Err fault) = record { status = refl; placed = refl }
 
-judged_spoken : (r : Option Refusal) (errors : List ℕ) → IsSpoken (judged r errors)
-judged_spoken None errors = record { status = refl; placed = refl }
-judged_spoken (Some refusal) errors = record { status = refl; placed = refl }
+failure_spoken : (r : Option Failure) (errors : List ℤ) → IsSpoken (by_failure r errors)
+failure_spoken None errors = record { status = refl; placed = refl }
+failure_spoken (Some failure) errors = record { status = refl; placed = refl }
 
-certificate_spoken : (f : ConstantFilter) (p : Code) (c : Option Certificate) → IsSpoken (by_certificate f p c)
-certificate_spoken f p None = record { status = refl; placed = refl }
-certificate_spoken f p (Some c) = judged_spoken (first_refusal f p c) c.errors
+judged_spoken : (f : Filter) (p : Code) (c : Certificate) → IsSpoken (judged f p c)
+unfolding judged
+judged_spoken f p c = failure_spoken (first_failure f p c) c.errors
 
-bytes_spoken : (f : ConstantFilter) (p : Code) (bytes : List ℕ) → IsSpoken (judged_bytes f p bytes)
-unfolding judged_bytes
-bytes_spoken f p bytes = certificate_spoken f p (certificate_in bytes)
+certificate_spoken : (f : Filter) (p : Code) (r : Result Certificate CertFault) → IsSpoken (certified f p r)
+certificate_spoken f p (Ok c) = judged_spoken f p c
+certificate_spoken f p (Err fault) = record { status = refl; placed = refl }
 
-code_spoken : (f : ConstantFilter) (p : Option Code) → AllSpoken (after_code f p)
-code_spoken f None = record { status = refl; placed = refl }
-code_spoken f (Some p) = λ bytes. bytes_spoken f p bytes
+code_spoken : (f : Filter) (r : Result Code CodeFault) → AllSpoken (code_plan f r)
+code_spoken f (Ok p) = λ cert. certificate_spoken f p (certificate_in (lines_of cert))
+code_spoken f (Err fault) = record { status = refl; placed = refl }
 
-filter_spoken : (f : Option ConstantFilter) → AllSpoken (after_filter f)
-filter_spoken None = record { status = refl; placed = refl }
-filter_spoken (Some f) = λ bytes. code_spoken f (code_in bytes)
+filter_spoken : (r : Result Filter FilterFault) → AllSpoken (filter_plan r)
+filter_spoken (Ok f) = λ code. code_spoken f (code_in code)
+filter_spoken (Err fault) = record { status = refl; placed = refl }
 
 verb_spoken : (v : Verb) → AllSpoken (plan_of v)
-verb_spoken Check = λ bytes. filter_spoken (filter_in bytes)
+verb_spoken Check = λ bytes. filter_spoken (filter_of_bytes bytes)
 verb_spoken Show = λ bytes. shown_spoken (filter_of_bytes bytes)
-verb_spoken Simulate = λ bytes. samples_spoken (general.code_in bytes)
+verb_spoken Simulate = λ bytes. samples_spoken (code_in bytes)
 
 words_spoken : (c : Option Command) → AllSpoken (plan_to c)
 words_spoken None = record { status = refl; placed = refl }
@@ -99,12 +95,10 @@ abbrev IsUsual : Answer → Type 0
 IsUsual a = IsSpoken a ⊎ (a ≡ absent)
 
 long_spoken : (o : Operand) → IsSpoken (too_long o)
-long_spoken Filter = record { status = refl; placed = refl }
+long_spoken operand.Filter = record { status = refl; placed = refl }
 long_spoken operand.Code = record { status = refl; placed = refl }
-long_spoken Samples = record { status = refl; placed = refl }
-long_spoken BuiltFilter = record { status = refl; placed = refl }
-long_spoken BuiltCode = record { status = refl; placed = refl }
-long_spoken BuiltCertificate = record { status = refl; placed = refl }
+long_spoken operand.Certificate = record { status = refl; placed = refl }
+long_spoken operand.Samples = record { status = refl; placed = refl }
 
 short_usual : (b : Bool) (next long : Answer) → IsUsual next → IsUsual long → IsUsual (cond b next long)
 short_usual true next long h l = h

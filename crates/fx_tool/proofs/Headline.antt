@@ -1,53 +1,46 @@
 -- Status 0 is the answer only where the files read as what they stand for; then what status 0 claims follows.
-use Rattle.std.proofs.Common.{◌≡◌, inl, inr, ◌∙◌, ℕ, Bool, true, false, List, [], ◌∷◌, length, Option, Some}
-use Rattle.std.proofs.Common.{None, IsSomeAnd, Result, Ok, Err, refl, sym, ap, subst, nat_le, cond}
+use Rattle.std.proofs.Common.{◌≡◌, inl, inr, ◌∙◌, ℕ, ℤ, Bool, true, false, List, [], ◌∷◌, length, Option, Some}
+use Rattle.std.proofs.Common.{None, IsSomeAnd, Result, Ok, Err, IsOkAnd, refl, sym, ap, subst, nat_le, cond}
 use Rattle.std.specs.FinMap.{get}
 use Rattle.fx_io.specs.Shelf.{Files}
 use Rattle.fx_files.proofs.HeldFilter.{file_law}
 use Rattle.fx_files.specs.Describes.{IsFileOf}
 use Rattle.fx_files.specs.Reading.{filter_of_bytes}
-use Rattle.fx_files.specs.Filter.{Filter as WholeFilter}
+use Rattle.fx_files.specs.Filter.{Filter}
 use Rattle.fx_keys.specs.declared.fault.FilterFault.{FilterFault}
+use Rattle.fx_text.proofs.CodeLaws.{code_law}
 use Rattle.fx_text.specs.Grammar.{Spells}
-use Rattle.fx_text.specs.Reading as general
+use Rattle.fx_text.specs.Reading.{code_in}
 use Rattle.fx_text.specs.declared.fault.CodeFault.{CodeFault}
-use Rattle.fx_text.proofs.CodeLaws as general_laws
 use Rattle.fx_sim.specs.Simulation.{simulation}
 use Rattle.fx_sim.specs.declared.fault.SampleFault.{SampleFault}
-use Rattle.fx_lines.specs.Filter.{filter_lines}
 use Rattle.fx_code.specs.Code.{Code}
-use Rattle.fx_code.specs.Fits.{CodeFits}
+use Rattle.fx_cert.specs.Certificate.{Certificate, IsTextOf}
+use Rattle.fx_cert.specs.Laws.{CertificateLaw}
+use Rattle.fx_cert.specs.Lines.{lines_of}
+use Rattle.fx_cert.specs.Reading.{certificate_in}
+use Rattle.fx_cert.specs.declared.fault.CertFault.{CertFault}
+use Rattle.fx_block.specs.Failure.{Failure, first_failure}
+use Rattle.fx_block.specs.Sound.{IsSound}
+use Rattle.fx_lines.specs.Filter.{filter_lines}
+use Rattle.fx_lines.specs.Verdict.{accepted_lines}
 use Rattle.fx_tool.specs.Answer.{Answer, absent, Delivers}
-use Rattle.fx_tool.specs.Certificate.{Certificate, IsCertificateText}
-use Rattle.fx_tool.specs.Check.{judged, by_certificate, judged_bytes, after_code, after_filter, check_plan, Headline}
-use Rattle.fx_tool.specs.Claim.{certificate_in, certificate_with}
-use Rattle.fx_tool.specs.CodeReading.{code_in}
+use Rattle.fx_tool.specs.Check.{by_failure, judged, certified, code_plan, filter_plan, Headline}
+use Rattle.fx_tool.specs.Check.{CertificateIsSound, CodeIsSound, FilterIsSound, FilesAreSound}
 use Rattle.fx_tool.specs.Command.{Command, command_of, operands_of}
-use Rattle.fx_tool.specs.ConstantCode.{CodeNumbers, code_of}
-use Rattle.fx_tool.specs.ConstantFilter.{ConstantFilter, filter_of, IsFilterText}
-use Rattle.fx_tool.specs.FilterReading.{filter_in}
-use Rattle.fx_tool.specs.Inequalities.{first_refusal}
 use Rattle.fx_tool.specs.Operand.{limit_of, too_long}
 use Rattle.fx_tool.specs.Plan.{Plan, Ends, Reads, by_content, answer_by, OfAnswer, WhereTold}
-use Rattle.fx_tool.specs.Printed.{accepted_text}
 use Rattle.fx_tool.specs.Running.{plan_of, operands_to, names_to, plan_to, OfWords, Claims, DoneClaims}
+use Rattle.fx_tool.specs.Running.{Establishes, EstablishesTo, EstablishesWords}
 use Rattle.fx_tool.specs.Show.{shown, Shows}
 use Rattle.fx_tool.specs.Simulate.{outputs, samples_plan, Simulates}
-use Rattle.fx_tool.specs.Sound.{IsSound}
 use Rattle.fx_tool.specs.Writing.{GrowsBy}
 use Rattle.fx_tool.specs.declared.command.Verb.{Verb}
 use Rattle.fx_tool.specs.declared.command.Verb.TheVariants.{Check, Show, Simulate}
-use Rattle.fx_tool.specs.declared.inequality.Refusal.{Refusal}
 use Rattle.fx_tool.specs.declared.operand.Operand.{Operand}
-use Rattle.fx_tool.specs.declared.operand.Operand.TheVariants.{Filter, Samples, BuiltFilter, BuiltCode}
-use Rattle.fx_tool.specs.declared.operand.Operand.TheVariants.{BuiltCertificate}
 use Rattle.fx_tool.specs.declared.operand.Operand.TheVariants as operand
 use Rattle.fx_tool.specs.declared.status.Status.{Status}
-use Rattle.fx_tool.specs.declared.status.Status.TheVariants.{Done, ReadFault, NotBuiltYet}
-use Rattle.fx_tool.proofs.ClaimLaws.{certificate_law, two_items, one_item, with_items}
-use Rattle.fx_tool.proofs.CodeLaws.{code_law, have_bits}
-use Rattle.fx_tool.proofs.ConstantSound.{sound}
-use Rattle.fx_tool.proofs.FilterLaws.{filter_stands}
+use Rattle.fx_tool.specs.declared.status.Status.TheVariants.{Done, Usage, ReadFault}
 
 -- ---- where the answer is 0, the first file is there and not too long
 
@@ -55,12 +48,10 @@ along : (a b : Answer) → a ≡ b → a.status ≡ Done → b.status ≡ Done
 along a b e h = sym (ap (λ (x : Answer). x.status) e) ∙ h
 
 long_refused : (o : Operand) → (too_long o).status ≡ Done → ⊥
-long_refused Filter h = cc
+long_refused operand.Filter h = cc
 long_refused operand.Code h = cc
-long_refused Samples h = cc
-long_refused BuiltFilter h = cc
-long_refused BuiltCode h = cc
-long_refused BuiltCertificate h = cc
+long_refused operand.Certificate h = cc
+long_refused operand.Samples h = cc
 
 short_done : (b : Bool) (next long : Answer) → (long.status ≡ Done → ⊥) → (cond b next long).status ≡ Done →
     cond b next long ≡ next
@@ -102,8 +93,8 @@ there o bytes P e h = rw e h
 
 -- ---- `show`
 
-shown_done : (r : Result WholeFilter FilterFault) → (shown r).status ≡ Done →
-    (f : WholeFilter) × (r ≡ Ok f) × ((shown r).text ≡ filter_lines f)
+shown_done : (r : Result Filter FilterFault) → (shown r).status ≡ Done →
+    (f : Filter) × (r ≡ Ok f) × ((shown r).text ≡ filter_lines f)
 shown_done (Ok f) h = (f, refl, refl)
 shown_done (Err fault) h = cc
 
@@ -112,7 +103,7 @@ show_done : (files : Files) (names : List (List ℕ)) (before after : Option (Li
     → GrowsBy (answer_by (operands_of Show) names (plan_of Show) files).text before after →
     Claims Show names files before after
 show_done files names before after h grows =
-    let file = is_read Filter [] names (λ bytes. Ends (shown (filter_of_bytes bytes))) files h in
+    let file = is_read operand.Filter [] names (λ bytes. Ends (shown (filter_of_bytes bytes))) files h in
     let (f, read, text) = shown_done (filter_of_bytes file.bytes) (along _ _ file.same h) in
     let claim : Shows files file.name before after = record {
       filter = f;
@@ -125,7 +116,7 @@ show_done files names before after h grows =
 -- ---- `simulate`
 
 code_done : (r : Result Code CodeFault) (names : List (List ℕ)) (files : Files) →
-    (answer_by (Samples ∷ []) names (samples_plan r) files).status ≡ Done → (p : Code) × (r ≡ Ok p)
+    (answer_by (operand.Samples ∷ []) names (samples_plan r) files).status ≡ Done → (p : Code) × (r ≡ Ok p)
 code_done (Ok p) names files h = (p, refl)
 code_done (Err fault) names files h = cc
 
@@ -139,11 +130,11 @@ simulate_done : (files : Files) (names : List (List ℕ)) (before after : Option
     → GrowsBy (answer_by (operands_of Simulate) names (plan_of Simulate) files).text before after →
     Claims Simulate names files before after
 simulate_done files names before after h grows =
-    let file = is_read operand.Code (Samples ∷ []) names (λ bytes. samples_plan (general.code_in bytes)) files h in
+    let file = is_read operand.Code (operand.Samples ∷ []) names (λ bytes. samples_plan (code_in bytes)) files h in
     let after_file = along _ _ file.same h in
-    let (p, read) = code_done (general.code_in file.bytes) file.others files after_file in
-    let second = ap (λ r. answer_by (Samples ∷ []) file.others (samples_plan r) files) read in
-    let moments = is_read Samples [] file.others (λ bytes.
+    let (p, read) = code_done (code_in file.bytes) file.others files after_file in
+    let second = ap (λ r. answer_by (operand.Samples ∷ []) file.others (samples_plan r) files) read in
+    let moments = is_read operand.Samples [] file.others (λ bytes.
     Ends (outputs (simulation p bytes))) files (along _ _ second after_file) in
     let (t, runs, text) = outputs_done (simulation p moments.bytes)
     (along _ _ moments.same (along _ _ second after_file)) in
@@ -151,7 +142,7 @@ simulate_done files names before after h grows =
       program = p;
       text = t;
       spells = there (get files file.name) file.bytes (λ bytes.
-          Spells bytes p) file.there ((general_laws.code_law file.bytes p).0 read);
+          Spells bytes p) file.there ((code_law file.bytes p).0 read);
       runs = there (get files moments.name) moments.bytes (λ bytes. simulation p bytes ≡ Ok t) moments.there runs;
       printed = subst (λ (t : List ℕ). GrowsBy t before after)
           (ap (λ (a : Answer). a.text) (file.same ∙ second ∙ moments.same) ∙ text) grows;
@@ -162,132 +153,150 @@ simulate_done files names before after h grows =
 
 -- ---- `check`
 
-filter_done : (r : Option ConstantFilter) (names : List (List ℕ)) (files : Files) →
-    (answer_by (BuiltCode ∷ BuiltCertificate ∷ []) names (after_filter r) files).status ≡ Done →
-    (f : ConstantFilter) × (r ≡ Some f)
-filter_done (Some f) names files h = (f, refl)
-filter_done None names files h = cc
+filter_done : (r : Result Filter FilterFault) (names : List (List ℕ)) (files : Files) →
+    (answer_by (operand.Code ∷ operand.Certificate ∷ []) names (filter_plan r) files).status ≡ Done →
+    (f : Filter) × (r ≡ Ok f)
+filter_done (Ok f) names files h = (f, refl)
+filter_done (Err fault) names files h = cc
 
-program_done : (f : ConstantFilter) (r : Option Code) (names : List (List ℕ)) (files : Files) →
-    (answer_by (BuiltCertificate ∷ []) names (after_code f r) files).status ≡ Done → (p : Code) × (r ≡ Some p)
-program_done f (Some p) names files h = (p, refl)
-program_done f None names files h = cc
+program_done : (f : Filter) (r : Result Code CodeFault) (names : List (List ℕ)) (files : Files) →
+    (answer_by (operand.Certificate ∷ []) names (code_plan f r) files).status ≡ Done → (p : Code) × (r ≡ Ok p)
+program_done f (Ok p) names files h = (p, refl)
+program_done f (Err fault) names files h = cc
 
--- a certificate that is read, and refused by no inequality
-record IsPassed (f : ConstantFilter) (p : Code) (bytes : List ℕ) (answer : Answer) : Type 0 where
-  c : Certificate
-  read : certificate_in bytes ≡ Some c
-  passes : first_refusal f p c ≡ None
-  text : answer.text ≡ accepted_text c.errors
+failure_done : (r : Option Failure) (errors : List ℤ) → (by_failure r errors).status ≡ Done →
+    (by_failure r errors).text ≡ accepted_lines errors
+failure_done None errors h = refl
+failure_done (Some failure) errors h = cc
 
-judged_done : (r : Option Refusal) (errors : List ℕ) → (judged r errors).status ≡ Done →
-    (r ≡ None) × ((judged r errors).text ≡ accepted_text errors)
-judged_done None errors h = (refl, refl)
-judged_done (Some refusal) errors h = cc
+judged_done : (f : Filter) (p : Code) (c : Certificate) → (judged f p c).status ≡ Done →
+    (judged f p c).text ≡ accepted_lines c.errors
+unfolding judged
+judged_done f p c h = failure_done (first_failure f p c) c.errors h
 
-certificate_done : (f : ConstantFilter) (p : Code) (r : Option Certificate) → (by_certificate f p r).status ≡ Done
-    → (c : Certificate) × (r ≡ Some c) × (first_refusal f p c ≡ None)
-    × ((by_certificate f p r).text ≡ accepted_text c.errors)
-certificate_done f p None h = cc
-certificate_done f p (Some c) h =
-    let (passes, text) = judged_done (first_refusal f p c) c.errors h in
-    (c, refl, passes, text)
+certificate_done : (f : Filter) (p : Code) (r : Result Certificate CertFault) → (certified f p r).status ≡ Done
+    → (c : Certificate) × (r ≡ Ok c) × ((certified f p r).text ≡ accepted_lines c.errors)
+certificate_done f p (Ok c) h = (c, refl, judged_done f p c h)
+certificate_done f p (Err fault) h = cc
 
-bytes_done : (f : ConstantFilter) (p : Code) (bytes : List ℕ) → (judged_bytes f p bytes).status ≡ Done →
-    IsPassed f p bytes (judged_bytes f p bytes)
-unfolding judged_bytes
-bytes_done f p bytes h =
-    let (c, read, passes, text) = certificate_done f p (certificate_in bytes) h in
-    record { c = c; read = read; passes = passes; text = text }
+-- of a file that is there
+of_file : (o : Option (List ℕ)) (bytes : List ℕ) (P : List ℕ → Type 0) → o ≡ Some bytes → IsSomeAnd o P → P bytes
+of_file o bytes P e h = subst (λ o. IsSomeAnd o P) e h
 
--- what is read of a file is what its text means
-filter_reads : (bytes : List ℕ) (f : ConstantFilter) → filter_in bytes ≡ Some f → IsFilterText bytes (filter_of f)
-filter_reads bytes f h =
-    let t = filter_stands bytes f h in
-    record { numbers = t.numbers; fit = t.fit; text = t.text; meaning = ap filter_of t.meaning }
+-- and of what it is read as
+of_value : {T F : Type 0} (r : Result T F) (x : T) (P : T → Type 0) → r ≡ Ok x → IsOkAnd r P → P x
+of_value r x P e h = subst (λ r. IsOkAnd r P) e h
 
-sound_for : (f : ConstantFilter) (n : CodeNumbers) (c : Certificate) → CodeFits (code_of n) →
-    length c.bounds ≡ 2 → length c.errors ≡ 1 → first_refusal f (code_of n) c ≡ None →
-    IsSound (filter_of f) (code_of n) c.errors
-sound_for f n c fit two one passes =
-    let (a, b, bounds) = two_items c.bounds two in
-    let (e, errors) = one_item c.errors one in
-    let same : c ≡ certificate_with c.length a b e = with_items c.length c.bounds c.errors a b e bounds errors in
-    let passed : first_refusal f (code_of n) (certificate_with c.length a b e) ≡ None =
-    subst (λ (d : Certificate). first_refusal f (code_of n) d ≡ None) same passes in
-    subst (λ (es : List ℕ). IsSound (filter_of f) (code_of n) es) (sym errors)
-    (sound f n c.length a b e (have_bits n fit).0 (have_bits n fit).1 passed)
+-- the files of `check`, and what they are read as
+record IsJudged (files : Files) (names : List (List ℕ)) (answer : Answer) : Type 0 where
+  filter_name : List ℕ
+  code_name : List ℕ
+  cert_name : List ℕ
+  others : List (List ℕ)
+  names_are : names ≡ filter_name ∷ code_name ∷ cert_name ∷ others
+  filter_bytes : List ℕ
+  code_bytes : List ℕ
+  cert_bytes : List ℕ
+  filter_there : get files filter_name ≡ Some filter_bytes
+  code_there : get files code_name ≡ Some code_bytes
+  cert_there : get files cert_name ≡ Some cert_bytes
+  filter : Filter
+  program : Code
+  certificate : Certificate
+  filter_read : filter_of_bytes filter_bytes ≡ Ok filter
+  code_read : code_in code_bytes ≡ Ok program
+  cert_read : certificate_in (lines_of cert_bytes) ≡ Ok certificate
+  text : answer.text ≡ accepted_lines certificate.errors
 
-headline : (files : Files) (f : ConstantFilter) (p : Code)
-    (filter_name code_name certificate_name filter_bytes code_bytes certificate_bytes : List ℕ)
-    (answer : Answer) (before after : Option (List ℕ))
-    → get files filter_name ≡ Some filter_bytes → filter_in filter_bytes ≡ Some f →
-    get files code_name ≡ Some code_bytes → code_in code_bytes ≡ Some p →
-    get files certificate_name ≡ Some certificate_bytes
-    → IsPassed f p certificate_bytes answer → GrowsBy answer.text before after →
-    Headline files filter_name code_name certificate_name before after
-headline files f p filter_name code_name certificate_name filter_bytes code_bytes certificate_bytes answer
-    before after filter_there filter_read code_there code_read certificate_there d grows =
-    let c = d.c in
-    let code = (code_law code_bytes p).0 code_read in
-    let cert = (certificate_law certificate_bytes c).0 d.read in
-    let fits : CodeFits (code_of code.numbers) = subst (λ (p : Code). CodeFits p) code.meaning code.spells.fits in
-    let passes : first_refusal f (code_of code.numbers) c ≡ None =
-    subst (λ (p : Code). first_refusal f p c ≡ None) code.meaning d.passes in
-    let is_sound : IsSound (filter_of f) p c.errors =
-    subst (λ (p : Code). IsSound (filter_of f) p c.errors) (sym code.meaning)
-    (sound_for f code.numbers c fits cert.1 cert.2 passes) in
-    record {
-      filter = filter_of f;
-      program = p;
-      certificate = c;
-      filter_text = there (get files filter_name) filter_bytes (λ bytes.
-          IsFilterText bytes (filter_of f)) filter_there (filter_reads filter_bytes f filter_read);
-      code_text = there (get files code_name) code_bytes (λ bytes. Spells bytes p) code_there code.spells;
-      certificate_text = there (get files certificate_name) certificate_bytes (λ bytes.
-          IsCertificateText bytes c) certificate_there cert.0;
-      sound = is_sound;
-      printed = subst (λ (t : List ℕ). GrowsBy t before after) d.text grows;
-    }
-
-check_done : (files : Files) (names : List (List ℕ)) (before after : Option (List ℕ)) →
-    (answer_by (operands_of Check) names (plan_of Check) files).status ≡ Done
-    → GrowsBy (answer_by (operands_of Check) names (plan_of Check) files).text before after →
-    Claims Check names files before after
-check_done files names before after h grows =
-    let filter = is_read BuiltFilter (BuiltCode ∷ BuiltCertificate ∷ []) names (λ bytes.
-    after_filter (filter_in bytes)) files h in
+is_judged : (files : Files) (names : List (List ℕ)) →
+    (answer_by (operands_of Check) names (plan_of Check) files).status ≡ Done →
+    IsJudged files names (answer_by (operands_of Check) names (plan_of Check) files)
+is_judged files names h =
+    let filter = is_read operand.Filter (operand.Code ∷ operand.Certificate ∷ []) names (λ bytes.
+    filter_plan (filter_of_bytes bytes)) files h in
     let has_filter = along _ _ filter.same h in
-    let (f, filter_read) = filter_done (filter_in filter.bytes) filter.others files has_filter in
+    let (f, filter_read) = filter_done (filter_of_bytes filter.bytes) filter.others files has_filter in
     let of_filter = ap (λ r.
-    answer_by (BuiltCode ∷ BuiltCertificate ∷ []) filter.others (after_filter r) files) filter_read in
-    let code = is_read BuiltCode (BuiltCertificate ∷ []) filter.others (λ bytes.
-    after_code f (code_in bytes)) files (along _ _ of_filter has_filter) in
+    answer_by (operand.Code ∷ operand.Certificate ∷ []) filter.others (filter_plan r) files) filter_read in
+    let code = is_read operand.Code (operand.Certificate ∷ []) filter.others (λ bytes.
+    code_plan f (code_in bytes)) files (along _ _ of_filter has_filter) in
     let has_code = along _ _ code.same (along _ _ of_filter has_filter) in
     let (p, code_read) = program_done f (code_in code.bytes) code.others files has_code in
-    let of_code = ap (λ r. answer_by (BuiltCertificate ∷ []) code.others (after_code f r) files) code_read in
-    let cert = is_read BuiltCertificate [] code.others (λ bytes.
-    Ends (judged_bytes f p bytes)) files (along _ _ of_code has_code) in
-    let passed = bytes_done f p cert.bytes (along _ _ cert.same (along _ _ of_code has_code)) in
-    let same = filter.same ∙ of_filter ∙ code.same ∙ of_code ∙ cert.same in
-    let printed : GrowsBy (judged_bytes f p cert.bytes).text before after =
-    subst (λ (t : List ℕ). GrowsBy t before after) (ap (λ (a : Answer). a.text) same) grows in
-    let claim : Headline files filter.name code.name cert.name before after =
-    headline files f p filter.name code.name cert.name filter.bytes code.bytes cert.bytes
-    (judged_bytes f p cert.bytes) before after filter.there filter_read code.there code_read cert.there
-    passed printed in
-    let names_are : names ≡ filter.name ∷ code.name ∷ cert.name ∷ cert.others =
-    filter.is ∙ ap (λ ns. filter.name ∷ ns) (code.is ∙ ap (λ ns. code.name ∷ ns) cert.is) in
-    subst (λ (names : List (List ℕ)). Claims Check names files before after) (sym names_are) claim
+    let of_code = ap (λ r. answer_by (operand.Certificate ∷ []) code.others (code_plan f r) files) code_read in
+    let cert = is_read operand.Certificate [] code.others (λ bytes.
+    Ends (certified f p (certificate_in (lines_of bytes)))) files (along _ _ of_code has_code) in
+    let (c, cert_read, text) = certificate_done f p (certificate_in (lines_of cert.bytes))
+    (along _ _ cert.same (along _ _ of_code has_code)) in
+    record {
+      filter_name = filter.name;
+      code_name = code.name;
+      cert_name = cert.name;
+      others = cert.others;
+      names_are = filter.is ∙ ap (λ ns. filter.name ∷ ns) (code.is ∙ ap (λ ns. code.name ∷ ns) cert.is);
+      filter_bytes = filter.bytes;
+      code_bytes = code.bytes;
+      cert_bytes = cert.bytes;
+      filter_there = filter.there;
+      code_there = code.there;
+      cert_there = cert.there;
+      filter = f;
+      program = p;
+      certificate = c;
+      filter_read = filter_read;
+      code_read = code_read;
+      cert_read = cert_read;
+      text = ap (λ (a : Answer). a.text) (filter.same ∙ of_filter ∙ code.same ∙ of_code ∙ cert.same) ∙ text;
+    }
+
+-- what the code of `check` shows, of what the files are read as
+judged_sound : (files : Files) (names : List (List ℕ)) (answer : Answer) (j : IsJudged files names answer) →
+    FilesAreSound (Some files) j.filter_name j.code_name j.cert_name →
+    IsSound j.filter j.program j.certificate.errors
+judged_sound files names answer j sound =
+    let filter = of_file (get files j.filter_name) j.filter_bytes
+    (FilterIsSound (Some files) j.code_name j.cert_name) j.filter_there sound in
+    let code = of_file (get files j.code_name) j.code_bytes (CodeIsSound (Some files) j.cert_name j.filter) j.code_there
+    (of_value (filter_of_bytes j.filter_bytes) j.filter _ j.filter_read filter) in
+    let cert = of_file (get files j.cert_name) j.cert_bytes (CertificateIsSound j.filter j.program) j.cert_there
+    (of_value (code_in j.code_bytes) j.program _ j.code_read code) in
+    of_value (certificate_in (lines_of j.cert_bytes)) j.certificate _ j.cert_read cert
+
+headline : CertificateLaw → (files : Files) (names : List (List ℕ)) (answer : Answer) (before after : Option (List ℕ))
+    (j : IsJudged files names answer) → FilesAreSound (Some files) j.filter_name j.code_name j.cert_name →
+    GrowsBy answer.text before after → Headline files j.filter_name j.code_name j.cert_name before after
+headline law files names answer before after j sound grows = record {
+  filter = j.filter;
+  program = j.program;
+  certificate = j.certificate;
+  filter_file = there (get files j.filter_name) j.filter_bytes (λ bytes. IsFileOf bytes j.filter) j.filter_there
+      ((file_law j.filter_bytes j.filter).0 j.filter_read);
+  code_text = there (get files j.code_name) j.code_bytes (λ bytes. Spells bytes j.program) j.code_there
+      ((code_law j.code_bytes j.program).0 j.code_read);
+  certificate_text = there (get files j.cert_name) j.cert_bytes (λ bytes. IsTextOf bytes j.certificate) j.cert_there
+      ((law j.cert_bytes j.certificate).0 j.cert_read);
+  sound = judged_sound files names answer j sound;
+  printed = subst (λ (t : List ℕ). GrowsBy t before after) j.text grows;
+}
+
+check_done : CertificateLaw → (files : Files) (names : List (List ℕ)) (before after : Option (List ℕ)) →
+    (answer_by (operands_of Check) names (plan_of Check) files).status ≡ Done →
+    Establishes Check names (Some files)
+    → GrowsBy (answer_by (operands_of Check) names (plan_of Check) files).text before after →
+    Claims Check names files before after
+check_done law files names before after h sound grows =
+    let j = is_judged files names h in
+    let shown = subst (λ (names : List (List ℕ)). Establishes Check names (Some files)) j.names_are sound in
+    subst (λ (names : List (List ℕ)). Claims Check names files before after) (sym j.names_are)
+    (headline law files names (answer_by (operands_of Check) names (plan_of Check) files) before after j shown grows)
 
 -- ---- each command
 
-verb_done : (v : Verb) (names : List (List ℕ)) (files : Files) (before after : Option (List ℕ)) →
-    (answer_by (operands_of v) names (plan_of v) files).status ≡ Done
+verb_done : CertificateLaw → (v : Verb) (names : List (List ℕ)) (files : Files) (before after : Option (List ℕ)) →
+    (answer_by (operands_of v) names (plan_of v) files).status ≡ Done → Establishes v names (Some files)
     → GrowsBy (answer_by (operands_of v) names (plan_of v) files).text before after → Claims v names files before after
-verb_done Check names files before after h grows = check_done files names before after h grows
-verb_done Show names files before after h grows = show_done files names before after h grows
-verb_done Simulate names files before after h grows = simulate_done files names before after h grows
+verb_done law Check names files before after h shown grows = check_done law files names before after h shown grows
+verb_done law Show names files before after h shown grows = show_done files names before after h grows
+verb_done law Simulate names files before after h shown grows = simulate_done files names before after h grows
 
 -- a status 0 is the answer's
 answered : (a : Answer) (before after : Option (List ℕ)) → Delivers a Done before after → a.status ≡ Done
@@ -303,20 +312,21 @@ told_answer : (os : List Operand) (names : List (List ℕ)) (plan : Plan) (files
 told_answer os names (Ends a) files P h = h
 told_answer os names (Reads next) files P h = h
 
-command_done : (c : Option Command) (files : Files) (before after : Option (List ℕ)) →
+command_done : CertificateLaw → (c : Option Command) (files : Files) (before after : Option (List ℕ)) →
+    EstablishesTo c (Some files) →
     OfAnswer (operands_to c) (names_to c) (plan_to c) (Some files) (λ a. Delivers a Done before after)
     → IsSomeAnd c (λ c. Claims c.verb c.names files before after)
-command_done None files before after h =
-    absurd (let e : NotBuiltYet ≡ Done = answered (answer_by [] [] (plan_to None) files) before after h in cc)
-command_done (Some c) files before after h =
+command_done law None files before after shown h =
+    absurd (let e : Usage ≡ Done = answered (answer_by [] [] (plan_to None) files) before after h in cc)
+command_done law (Some c) files before after shown h =
     let given = told_answer (operands_of c.verb) c.names (plan_of c.verb) files (λ a. Delivers a Done before after) h in
     let done = answered (answer_by (operands_of c.verb) c.names (plan_of c.verb) files) before after given in
-    verb_done c.verb c.names files before after done (given.whole (sym done))
+    verb_done law c.verb c.names files before after done shown (given.whole (sym done))
 
-pub done_claims : (words : List (List ℕ)) (told : Option Files) (status : Status)
-    (before after : Option (List ℕ)) → status ≡ Done →
+pub done_claims : CertificateLaw → (words : List (List ℕ)) (told : Option Files) (status : Status)
+    (before after : Option (List ℕ)) → status ≡ Done → EstablishesWords words told →
     OfWords words told (λ a. Delivers a status before after) → DoneClaims words told before after
-done_claims words None status before after e h = tt
-done_claims words (Some files) status before after e h =
-    command_done (command_of words) files before after (subst (λ (s : Status).
+done_claims law words None status before after e shown h = tt
+done_claims law words (Some files) status before after e shown h =
+    command_done law (command_of words) files before after shown (subst (λ (s : Status).
     OfWords words (Some files) (λ a. Delivers a s before after)) e h)

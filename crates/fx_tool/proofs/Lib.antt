@@ -1,14 +1,6 @@
+pub mod Accepting
 pub mod Answering
-pub mod ClaimLaws
-pub mod CodeLaws
-pub mod ConstantSound
-pub mod FilterLaws
-pub mod Gains
+pub mod Followed
 pub mod Headline
-pub mod NumeralLaws
-pub mod PlainLaws
 pub mod ReadSoFar
-pub mod TextLaws
-pub mod Texts
-pub mod Weights
 pub mod WrittenSoFar

@@ -1,51 +1,76 @@
 -- Of `check`: its plan, and what status 0 claims.
-use Rattle.std.specs.Prelude.{ℕ, List, codes, Option, Some, None, IsSomeAnd}
+use Rattle.std.specs.Prelude.{ℕ, ℤ, List, Option, Some, None, Result, Ok, Err, IsOkAnd, IsSomeAnd}
 use Rattle.std.specs.FinMap.{get}
 use Rattle.fx_io.specs.Shelf.{Files}
+use Rattle.fx_files.specs.Describes.{IsFileOf}
+use Rattle.fx_files.specs.Filter.{Filter}
+use Rattle.fx_files.specs.Reading.{filter_of_bytes}
+use Rattle.fx_keys.specs.declared.fault.FilterFault.{FilterFault}
 use Rattle.fx_code.specs.Code.{Code}
 use Rattle.fx_text.specs.Grammar.{Spells}
+use Rattle.fx_text.specs.Reading.{code_in}
+use Rattle.fx_text.specs.declared.fault.CodeFault.{CodeFault}
+use Rattle.fx_cert.specs.Certificate.{Certificate, IsTextOf}
+use Rattle.fx_cert.specs.Lines.{lines_of}
+use Rattle.fx_cert.specs.Reading.{certificate_in}
+use Rattle.fx_cert.specs.declared.fault.CertFault.{CertFault}
+use Rattle.fx_block.specs.Failure.{Failure, first_failure}
+use Rattle.fx_block.specs.Sound.{IsSound}
+use Rattle.fx_lines.specs.Verdict.{accepted_lines, refused_line}
 use Rattle.fx_tool.specs.Answer.{Answer, says}
-use Rattle.fx_tool.specs.Certificate.{Certificate, IsCertificateText}
-use Rattle.fx_tool.specs.Claim.{certificate_in}
-use Rattle.fx_tool.specs.CodeReading.{code_in}
-use Rattle.fx_tool.specs.ConstantFilter.{ConstantFilter, IsFilterText}
-use Rattle.fx_tool.specs.Filter.{Filter}
-use Rattle.fx_tool.specs.FilterReading.{filter_in}
-use Rattle.fx_tool.specs.Inequalities.{first_refusal}
 use Rattle.fx_tool.specs.Plan.{Plan, Ends, Reads}
-use Rattle.fx_tool.specs.Printed.{accepted_text, refused_text}
-use Rattle.fx_tool.specs.Sound.{IsSound}
+use Rattle.fx_tool.specs.Reading.{Has}
+use Rattle.fx_tool.specs.Refused.{refused_filter, refused_code, refused_certificate}
 use Rattle.fx_tool.specs.Writing.{GrowsBy}
-use Rattle.fx_tool.specs.declared.inequality.Refusal.{Refusal}
-use Rattle.fx_tool.specs.declared.status.Status.TheVariants.{Done, Refused, NotBuiltYet}
+use Rattle.fx_tool.specs.declared.status.Status.TheVariants.{Done, Refused}
 
 -- by the first inequality that fails, if one does
-abbrev pub judged : Option Refusal → List ℕ → Answer
-judged None errors = says Done (accepted_text errors)
-judged (Some refusal) errors = says Refused (refused_text refusal)
+abbrev pub by_failure : Option Failure → List ℤ → Answer
+by_failure None errors = says Done (accepted_lines errors)
+by_failure (Some failure) errors = says Refused (refused_line failure)
 
--- a certificate, or none that is of the built form
-abbrev pub by_certificate : ConstantFilter → Code → Option Certificate → Answer
-by_certificate f p None = says NotBuiltYet (codes "not built yet certificate\n")
-by_certificate f p (Some c) = judged (first_refusal f p c) c.errors
+-- a certificate, for a filter and a program
+unfoldable pub judged : Filter → Code → Certificate → Answer
+judged f p c = by_failure (first_failure f p c) c.errors
 
--- the same of its bytes
-unfoldable pub judged_bytes : ConstantFilter → Code → List ℕ → Answer
-judged_bytes f p bytes = by_certificate f p (certificate_in bytes)
+-- what a certificate's bytes are read as
+abbrev pub certified : Filter → Code → Result Certificate CertFault → Answer
+certified f p (Ok c) = judged f p c
+certified f p (Err fault) = refused_certificate fault
 
--- the program, for this filter
-abbrev pub after_code : ConstantFilter → Option Code → Plan
-after_code f None = Ends (says NotBuiltYet (codes "not built yet code\n"))
-after_code f (Some p) = Reads (λ cert. Ends (judged_bytes f p cert))
+-- the program goes on to the certificate, or its first fault is told
+abbrev pub code_plan : Filter → Result Code CodeFault → Plan
+code_plan f (Ok p) = Reads (λ cert. Ends (certified f p (certificate_in (lines_of cert))))
+code_plan f (Err fault) = Ends (refused_code fault)
 
-abbrev pub after_filter : Option ConstantFilter → Plan
-after_filter None = Ends (says NotBuiltYet (codes "not built yet filter\n"))
-after_filter (Some f) = Reads (λ code. after_code f (code_in code))
+-- the filter goes on to the program
+abbrev pub filter_plan : Result Filter FilterFault → Plan
+filter_plan (Ok f) = Reads (λ code. code_plan f (code_in code))
+filter_plan (Err fault) = Ends (refused_filter fault)
 
 abbrev pub check_plan : Plan
-check_plan = Reads (λ filter. after_filter (filter_in filter))
+check_plan = Reads (λ filter. filter_plan (filter_of_bytes filter))
 
--- The three files read as a filter, a program and a certificate; for every list of input words within the filter's
+-- ---- what holds of the files beside the answer, where that is status 0; of files that are not told nothing is said
+
+-- what is read of a certificate's bytes is sound for the filter and the program
+abbrev pub CertificateIsSound : Filter → Code → List ℕ → Type 0
+CertificateIsSound f p bytes = IsOkAnd (certificate_in (lines_of bytes)) (λ c. IsSound f p c.errors)
+
+-- and what is read of the program's
+abbrev pub CodeIsSound : Option Files → List ℕ → Filter → List ℕ → Type 0
+CodeIsSound told cert f bytes = IsOkAnd (code_in bytes) (λ p. Has told cert (CertificateIsSound f p))
+
+-- and of the filter's
+abbrev pub FilterIsSound : Option Files → List ℕ → List ℕ → List ℕ → Type 0
+FilterIsSound told code cert bytes = IsOkAnd (filter_of_bytes bytes) (λ f. Has told code (CodeIsSound told cert f))
+
+abbrev pub FilesAreSound : Option Files → List ℕ → List ℕ → List ℕ → Type 0
+FilesAreSound told filter code cert = Has told filter (FilterIsSound told code cert)
+
+-- ---- the headline
+
+-- The three files are those of a filter, a program and a certificate; for every list of input words within the filter's
 -- bounds, of any length, each row of the program ends with the exact sum in its accumulator, each stored word lies in
 -- its format, and each output differs from the filter's exact output by at most the certificate's error, which is the
 -- one that was printed.
@@ -54,8 +79,8 @@ pub record Headline (files : Files) (filter_name code_name certificate_name : Li
   pub filter : Filter
   pub program : Code
   pub certificate : Certificate
-  pub filter_text : IsSomeAnd (get files filter_name) (λ bytes. IsFilterText bytes filter)
+  pub filter_file : IsSomeAnd (get files filter_name) (λ bytes. IsFileOf bytes filter)
   pub code_text : IsSomeAnd (get files code_name) (λ bytes. Spells bytes program)
-  pub certificate_text : IsSomeAnd (get files certificate_name) (λ bytes. IsCertificateText bytes certificate)
+  pub certificate_text : IsSomeAnd (get files certificate_name) (λ bytes. IsTextOf bytes certificate)
   pub sound : IsSound filter program certificate.errors
-  pub printed : GrowsBy (accepted_text certificate.errors) before after
+  pub printed : GrowsBy (accepted_lines certificate.errors) before after

@@ -9,8 +9,7 @@ use Rattle.fx_tool.specs.declared.command.TheConstants.{VERBS}
 use Rattle.fx_tool.specs.declared.command.Verb.{Verb}
 use Rattle.fx_tool.specs.declared.command.Verb.TheVariants.{Check, Show, Simulate}
 use Rattle.fx_tool.specs.declared.operand.Operand.{Operand}
-use Rattle.fx_tool.specs.declared.operand.Operand.TheVariants.{Filter, Code, Samples, BuiltFilter, BuiltCode}
-use Rattle.fx_tool.specs.declared.operand.Operand.TheVariants.{BuiltCertificate}
+use Rattle.fx_tool.specs.declared.operand.Operand.TheVariants.{Filter, Code, Certificate, Samples}
 
 -- ---- one arm for each command
 
@@ -22,7 +21,7 @@ word_of Simulate = codes "simulate"
 
 -- and what it reads
 abbrev pub operands_of : Verb → List Operand
-operands_of Check = BuiltFilter ∷ BuiltCode ∷ BuiltCertificate ∷ []
+operands_of Check = Filter ∷ Code ∷ Certificate ∷ []
 operands_of Show = Filter ∷ []
 operands_of Simulate = Code ∷ Samples ∷ []
 

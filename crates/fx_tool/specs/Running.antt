@@ -1,12 +1,13 @@
 -- What a run of a command line promises.
-use Rattle.std.specs.Prelude.{◌≡◌, ◌⊎◌, ℕ, ◌+◌, ◌≤◌, List, [], ◌∷◌, codes, Option, Some, None, Result, IsSomeAnd}
+use Rattle.std.specs.Prelude.{◌≡◌, ◌⊎◌, ℕ, ◌+◌, ◌≤◌, List, [], ◌∷◌, ◌++◌, codes, Option, Some, None, Result}
+use Rattle.std.specs.Prelude.{IsSomeAnd, ⊤}
 use Rattle.std.specs.FinMap.{insert}
 use Rattle.fx_io.specs.Causes.{Rose}
 use Rattle.fx_io.specs.Outside.{Outside, Output}
 use Rattle.fx_io.specs.Shelf.{Files, KeepsNames}
 use Rattle.fx_io.specs.declared.shelf.IoFault.{IoFault}
 use Rattle.fx_tool.specs.Answer.{Answer, says, Delivers}
-use Rattle.fx_tool.specs.Check.{check_plan, Headline}
+use Rattle.fx_tool.specs.Check.{check_plan, FilesAreSound, Headline}
 use Rattle.fx_tool.specs.Command.{Command, command_of, operands_of}
 use Rattle.fx_tool.specs.Plan.{Plan, Ends, answer_by, plan_calls, Follows, MayRead, OfAnswer, WhereTold}
 use Rattle.fx_tool.specs.Show.{show_plan, Shows}
@@ -16,7 +17,7 @@ use Rattle.fx_tool.specs.declared.command.Verb.{Verb}
 use Rattle.fx_tool.specs.declared.command.Verb.TheVariants.{Check, Show, Simulate}
 use Rattle.fx_tool.specs.declared.operand.Operand.{Operand}
 use Rattle.fx_tool.specs.declared.status.Status.{Status}
-use Rattle.fx_tool.specs.declared.status.Status.TheVariants.{Done, ReadFault, WriteFault, NotBuiltYet}
+use Rattle.fx_tool.specs.declared.status.Status.TheVariants.{Done, Usage, ReadFault, WriteFault}
 
 -- ---- one arm for each command
 
@@ -24,6 +25,11 @@ abbrev pub plan_of : Verb → Plan
 plan_of Check = check_plan
 plan_of Show = show_plan
 plan_of Simulate = simulate_plan
+
+-- what its code shows of the files of these names beside the answer, where that is status 0
+abbrev pub Establishes : Verb → List (List ℕ) → Option Files → Type 0
+Establishes Check (filter ∷ code ∷ cert ∷ _) told = FilesAreSound told filter code cert
+Establishes _ _ told = ⊤
 
 -- what status 0 claims, of the files of these names and of the bytes before and after
 abbrev pub Claims : Verb → List (List ℕ) → Files → Option (List ℕ) → Option (List ℕ) → Type 0
@@ -34,6 +40,11 @@ Claims _ _ files before after = ⊥
 
 -- ---- what the words ask for, with words that are no command
 
+-- all commands that there will be, also those that are not built yet
+abbrev pub usage_line : List ℕ
+usage_line = codes "usage: fixif check FILTER CODE CERT, make FILTER CODE CERT, simulate CODE SAMPLES, gain FILTER, "
+    ++ codes "show FILTER, report FILTER CODE CERT, large NUMBER\n"
+
 abbrev pub operands_to : Option Command → List Operand
 operands_to None = []
 operands_to (Some c) = operands_of c.verb
@@ -43,7 +54,7 @@ names_to None = []
 names_to (Some c) = c.names
 
 abbrev pub plan_to : Option Command → Plan
-plan_to None = Ends (says NotBuiltYet (codes "not built yet words\n"))
+plan_to None = Ends (says Usage usage_line)
 plan_to (Some c) = plan_of c.verb
 
 -- the files that the words name may be read
@@ -66,6 +77,14 @@ calls_of words told = let c = command_of words in plan_calls (operands_to c) (na
 abbrev pub FollowsWords : List (List ℕ) → Outside → Outside → Result Answer IoFault → Type 0
 FollowsWords words before now result = let c = command_of words in
     Follows (operands_to c) (names_to c) (plan_to c) before now result
+
+-- what the code shows of the files that the words name, where the answer is status 0
+abbrev pub EstablishesTo : Option Command → Option Files → Type 0
+EstablishesTo None told = ⊤
+EstablishesTo (Some c) told = Establishes c.verb c.names told
+
+abbrev pub EstablishesWords : List (List ℕ) → Option Files → Type 0
+EstablishesWords words told = EstablishesTo (command_of words) told
 
 -- ---- a run
 

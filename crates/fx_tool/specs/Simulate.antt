@@ -8,12 +8,12 @@ use Rattle.fx_text.specs.Reading.{code_in}
 use Rattle.fx_text.specs.declared.fault.CodeFault.{CodeFault}
 use Rattle.fx_sim.specs.Simulation.{simulation}
 use Rattle.fx_sim.specs.declared.fault.SampleFault.{SampleFault}
-use Rattle.fx_lines.specs.CodeFault.{code_fault_line}
 use Rattle.fx_lines.specs.SampleFault.{sample_fault_line}
 use Rattle.fx_tool.specs.Answer.{Answer, says}
 use Rattle.fx_tool.specs.Plan.{Plan, Ends, Reads}
+use Rattle.fx_tool.specs.Refused.{refused_code}
 use Rattle.fx_tool.specs.Writing.{GrowsBy}
-use Rattle.fx_tool.specs.declared.status.Status.TheVariants.{Done, BadCode, BadSamples}
+use Rattle.fx_tool.specs.declared.status.Status.TheVariants.{Done, BadSamples}
 
 -- the outputs are put, or the first fault of the samples is told
 abbrev pub outputs : Result (List ℕ) SampleFault → Answer
@@ -23,7 +23,7 @@ outputs (Err fault) = says BadSamples (sample_fault_line fault)
 -- the program goes on to the samples, or its first fault is told
 abbrev pub samples_plan : Result Code CodeFault → Plan
 samples_plan (Ok p) = Reads (λ samples. Ends (outputs (simulation p samples)))
-samples_plan (Err fault) = Ends (says BadCode (code_fault_line fault))
+samples_plan (Err fault) = Ends (refused_code fault)
 
 abbrev pub simulate_plan : Plan
 simulate_plan = Reads (λ code. samples_plan (code_in code))

@@ -4,7 +4,6 @@ use Rattle.fx_tool.specs.declared.status.Status.{Status}
 use Rattle.fx_tool.specs.declared.status.Status.TheVariants.{Done, Refused, Usage, BadFilter, BadCode}
 use Rattle.fx_tool.specs.declared.status.Status.TheVariants.{BadCertificate, BadSamples, NoDesign, ReadFault}
 use Rattle.fx_tool.specs.declared.status.Status.TheVariants.{WriteFault, TooLong, Unbuildable, NoMemory}
-use Rattle.fx_tool.specs.declared.status.Status.TheVariants.{NotBuiltYet}
 
 abbrev pub number_of : Status → ℕ
 number_of Done = 0
@@ -20,17 +19,17 @@ number_of WriteFault = 9
 number_of TooLong = 10
 number_of Unbuildable = 11
 number_of NoMemory = 12
-number_of NotBuiltYet = 13
 
 -- the statuses that have a text of their own, of the commands that are built
 abbrev pub is_spoken : Status → Bool
 is_spoken Done = true
 is_spoken Refused = true
+is_spoken Usage = true
 is_spoken BadFilter = true
 is_spoken BadCode = true
+is_spoken BadCertificate = true
 is_spoken BadSamples = true
 is_spoken TooLong = true
-is_spoken NotBuiltYet = true
 is_spoken _ = false
 
 -- the statuses after which nothing more is put

@@ -47,11 +47,7 @@ impl Verb {
         ensures { result.now ≡ operands_of self }
     {
         match self {
-            Verb::Check => &[
-                Operand::BuiltFilter,
-                Operand::BuiltCode,
-                Operand::BuiltCertificate,
-            ],
+            Verb::Check => &[Operand::Filter, Operand::Code, Operand::Certificate],
             Verb::Show => &[Operand::Filter],
             Verb::Simulate => &[Operand::Code, Operand::Samples],
         }

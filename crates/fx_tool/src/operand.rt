@@ -11,14 +11,11 @@ use crate::status::Status;
 use fx_io::{IoFault, Shelf};
 use std::alloc::Global;
 
-/// The most bytes of a filter or of code.
+/// The most bytes of a filter, of code or of a certificate.
 pub const LONGEST_FILE: usize = 1_048_576;
 
 /// The most bytes of samples.
 pub const LONGEST_SAMPLES: usize = 16_777_216;
-
-/// The most bytes of a file of the one layout that `check` reads so far.
-pub const LONGEST_BUILT: usize = 4096;
 
 /// A file that a command reads.
 #[derive(Clone, Copy, Debug, PartialEq, Eq)]
@@ -27,14 +24,10 @@ pub enum Operand {
     Filter,
     /// A program.
     Code,
+    /// A certificate.
+    Certificate,
     /// Samples.
     Samples,
-    /// A filter of the one layout that `check` reads so far.
-    BuiltFilter,
-    /// A program of that layout.
-    BuiltCode,
-    /// A certificate of that layout.
-    BuiltCertificate,
 }
 
 impl Operand {
@@ -43,24 +36,20 @@ impl Operand {
         ensures { result ≡ limit_of self }
     {
         match self {
-            Operand::Filter | Operand::Code => LONGEST_FILE,
+            Operand::Filter | Operand::Code | Operand::Certificate => LONGEST_FILE,
             Operand::Samples => LONGEST_SAMPLES,
-            Operand::BuiltFilter | Operand::BuiltCode | Operand::BuiltCertificate => LONGEST_BUILT,
         }
     }
 
-    // The status and the line of a longer file.
-    fn too_long(self) -> (Status, &'static str)
-        ensures status { result.0 ≡ (too_long self).status }
-        ensures line { result.1.now ≡ (too_long self).text }
+    // The line of a longer file.
+    fn too_long_line(self) -> &'static str
+        ensures { result.now ≡ (too_long self).text }
     {
         match self {
-            Operand::Filter => (Status::TooLong, "too long FILTER\n"),
-            Operand::Code => (Status::TooLong, "too long CODE\n"),
-            Operand::Samples => (Status::TooLong, "too long SAMPLES\n"),
-            Operand::BuiltFilter => (Status::NotBuiltYet, "not built yet filter\n"),
-            Operand::BuiltCode => (Status::NotBuiltYet, "not built yet code\n"),
-            Operand::BuiltCertificate => (Status::NotBuiltYet, "not built yet certificate\n"),
+            Operand::Filter => "too long FILTER\n",
+            Operand::Code => "too long CODE\n",
+            Operand::Certificate => "too long CERT\n",
+            Operand::Samples => "too long SAMPLES\n",
         }
     }
 }
@@ -95,6 +84,5 @@ pub fn too_long(alloc: Global, operand: Operand) -> Result<Ending, IoFault>
     ensures answer { IfOk result (λ e. e ≡ too_long operand) }
     ensures fault { IfErr result (λ fault. fault ≡ NoMemory) }
 {
-    let (status, line) = operand.too_long();
-    Ok(Ending::line(alloc, status, line)?)
+    Ok(Ending::line(alloc, Status::TooLong, operand.too_long_line())?)
 }

@@ -2,7 +2,17 @@
 ghost use Rattle.std.specs.Prelude.{◌≡◌, length};
 ghost use Rattle.fx_tool.specs.Command.{operands_of, texts};
 ghost use Rattle.fx_tool.specs.Plan.{Follows, MayRead};
-ghost use Rattle.fx_tool.specs.Running.{plan_of, CanRead, FollowsWords, Leaves, Runs};
+ghost use Rattle.fx_tool.specs.Accepting.{PassingFilesAreAccepted};
+ghost use Rattle.fx_tool.specs.Answer.{WhereDone};
+ghost use Rattle.fx_tool.specs.Running.{
+  plan_of,
+  CanRead,
+  Establishes,
+  EstablishesWords,
+  FollowsWords,
+  Leaves,
+  Runs,
+};
 
 use crate::check::check;
 use crate::command::{Verb, command_of};
@@ -10,8 +20,15 @@ use crate::ending::Ending;
 use crate::show::show;
 use crate::simulate::simulate;
 use crate::status::Status;
+use fx_block::none_fails_where_all_hold;
+use fx_cert::certificate_is_read_exactly;
 use fx_io::{IoFault, Shelf, Sink};
 use std::alloc::Global;
+
+// All commands that there will be, also those that are not built yet.
+const USAGE: &str =
+    "usage: fixif check FILTER CODE CERT, make FILTER CODE CERT, simulate CODE SAMPLES, gain FILTER, \
+     show FILTER, report FILTER CODE CERT, large NUMBER\n";
 
 // Reads what a command reads, and says how the run ends.
 fn command_ending<S: Shelf>(
@@ -22,8 +39,9 @@ fn command_ending<S: Shelf>(
 ) -> Result<Ending, IoFault>
     requires count { length names.now ≡ length (operands_of verb) }
     requires readable { MayRead (S.seen shelf.old) (texts names.now) }
-    ensures { Follows (operands_of verb) (texts names.now) (plan_of verb)
+    ensures follows { Follows (operands_of verb) (texts names.now) (plan_of verb)
         (S.seen shelf.old) (S.seen shelf.new) result }
+    ensures establishes { WhereDone result (Establishes verb (texts names.now) (S.seen shelf.old).files) }
 {
     match (verb, names) {
         (Verb::Check, [filter, code, cert]) => {
@@ -40,19 +58,21 @@ fn command_ending<S: Shelf>(
 // The same for the words of a command line.
 fn ending<S: Shelf>(alloc: Global, words: &[String], shelf: &mut S) -> Result<Ending, IoFault>
     requires { CanRead (S.seen shelf.old) (texts words.now) }
-    ensures { FollowsWords (texts words.now) (S.seen shelf.old) (S.seen shelf.new) result }
+    ensures follows { FollowsWords (texts words.now) (S.seen shelf.old) (S.seen shelf.new) result }
+    ensures establishes { WhereDone result (EstablishesWords (texts words.now) (S.seen shelf.old).files) }
 {
     match command_of(words) {
         Some(command) => command_ending(alloc, command.verb, command.names, shelf),
-        None => Ok(Ending::line(alloc, Status::NotBuiltYet, "not built yet words\n")?),
+        None => Ok(Ending::line(alloc, Status::Usage, USAGE)?),
     }
 }
 
 // Runs a command line, and gives the answer of its words and files.
 fn answer<S: Shelf, K: Sink>(alloc: Global, words: &[String], shelf: &mut S, out: &mut K) -> Status
     requires { CanRead (S.seen shelf.old) (texts words.now) }
-    ensures { Leaves (texts words.now) (S.seen shelf.old) (S.seen shelf.new)
+    ensures leaves { Leaves (texts words.now) (S.seen shelf.old) (S.seen shelf.new)
         (K.seen out.old) (K.seen out.new) result }
+    ensures establishes { result ≡ Status.Done → EstablishesWords (texts words.now) (S.seen shelf.old).files }
 {
     match ending(alloc, words, shelf) {
         Ok(ending) => ending.put(out),
@@ -74,5 +94,16 @@ pub fn run<S: Shelf, K: Sink>(alloc: Global, words: &[String], shelf: &mut S, ou
     ensures { Runs (texts words.now) (S.seen shelf.old) (S.seen shelf.new)
         (K.seen out.old) (K.seen out.new) result }
 {
+    certificate_is_read_exactly();
     answer(alloc, words, shelf, out)
+}
+
+/// A law with nothing to run: where the words are `check` and the names of three files, of at most `LONGEST_FILE` bytes
+/// each, that are a filter's, the code of a program and the text of a certificate which meets all inequalities, the
+/// answer is `Done` with the lines of the certificate's errors.
+pub fn passing_files_are_accepted()
+    ensures { PassingFilesAreAccepted }
+{
+    certificate_is_read_exactly();
+    none_fails_where_all_hold();
 }

@@ -1,31 +1,18 @@
 //! `show`.
-ghost use Rattle.std.specs.Prelude.{◌≡◌, ◌≢◌, ◌∷◌, [], IfOk, IsTrue};
+ghost use Rattle.std.specs.Prelude.{◌≡◌, ◌∷◌, [], IfOk, IsTrue};
 ghost use Rattle.fx_files.specs.Reading.{filter_of_bytes};
-ghost use Rattle.fx_keys.specs.declared.fault.FilterFault.TheVariants.{NoMemory};
-ghost use Rattle.fx_lines.specs.FilterFault.{filter_fault_line};
-ghost use Rattle.fx_tool.specs.Answer.{says};
 ghost use Rattle.fx_tool.specs.Plan.{Follows};
 ghost use Rattle.fx_tool.specs.Show.{show_plan, shown};
 ghost use Rattle.fx_tool.specs.declared.operand.Operand.TheVariants.{Filter};
 
 use crate::ending::Ending;
 use crate::operand::{Operand, read_operand, too_long};
+use crate::refused::refused_filter;
 use crate::status::Status;
-use fx_files::{FilterFault, read_filter};
+use fx_files::read_filter;
 use fx_io::{IoFault, Shelf};
-use fx_lines::{filter_fault_line, shown_filter};
+use fx_lines::shown_filter;
 use std::alloc::{AllocError, Global};
-
-// A refused filter ends the run with its line.
-fn refused(alloc: Global, fault: &FilterFault) -> Result<Ending, AllocError>
-    ensures answer { IfOk result (λ e. e ≡ says Status.BadFilter (filter_fault_line fault.now)) }
-    ensures fault { IfOk result (λ e. fault.now ≢ NoMemory) }
-{
-    if let FilterFault::NoMemory = fault {
-        return Err(AllocError);
-    }
-    Ok(Ending::new(Status::BadFilter, filter_fault_line(alloc, fault)?))
-}
 
 // How a filter's bytes end: it is shown, or its first fault is told.
 fn shown(alloc: Global, bytes: &[u8]) -> Result<Ending, AllocError>
@@ -33,7 +20,7 @@ fn shown(alloc: Global, bytes: &[u8]) -> Result<Ending, AllocError>
 {
     match read_filter(alloc, bytes) {
         Ok(filter) => Ok(Ending::new(Status::Done, shown_filter(alloc, &filter)?)),
-        Err(fault) => refused(alloc, &fault),
+        Err(fault) => refused_filter(alloc, &fault),
     }
 }
 

@@ -1,12 +1,10 @@
 //! `simulate`.
 ghost use Rattle.std.specs.Prelude.{◌≡◌, ◌≢◌, ◌∷◌, [], Ok, IfOk, IsTrue};
 ghost use Rattle.fx_code.specs.Code.{IsWhole};
-ghost use Rattle.fx_lines.specs.CodeFault.{code_fault_line};
 ghost use Rattle.fx_lines.specs.SampleFault.{sample_fault_line};
 ghost use Rattle.fx_sim.specs.Simulation.{simulation};
 ghost use Rattle.fx_sim.specs.declared.fault.SampleFault.TheVariants as samples;
 ghost use Rattle.fx_text.specs.Reading.{code_in};
-ghost use Rattle.fx_text.specs.declared.fault.CodeFault.TheVariants as code;
 ghost use Rattle.fx_tool.specs.Answer.{says};
 ghost use Rattle.fx_tool.specs.Plan.{Follows};
 ghost use Rattle.fx_tool.specs.Simulate.{outputs, samples_plan, simulate_plan};
@@ -14,24 +12,14 @@ ghost use Rattle.fx_tool.specs.declared.operand.Operand.TheVariants.{Code, Sampl
 
 use crate::ending::Ending;
 use crate::operand::{Operand, read_operand, too_long};
+use crate::refused::refused_code;
 use crate::status::Status;
 use fx_code::Program;
 use fx_io::{IoFault, Shelf};
-use fx_lines::{code_fault_line, sample_fault_line};
+use fx_lines::sample_fault_line;
 use fx_sim::{SampleFault, simulate as run_on};
-use fx_text::{CodeFault, read_code};
+use fx_text::read_code;
 use std::alloc::{AllocError, Global};
-
-// Refused code ends the run with its line.
-fn refused_code(alloc: Global, fault: &CodeFault) -> Result<Ending, AllocError>
-    ensures answer { IfOk result (λ e. e ≡ says Status.BadCode (code_fault_line fault.now)) }
-    ensures fault { IfOk result (λ e. fault.now ≢ code.NoMemory) }
-{
-    if let CodeFault::NoMemory = fault {
-        return Err(AllocError);
-    }
-    Ok(Ending::new(Status::BadCode, code_fault_line(alloc, fault)?))
-}
 
 // Refused samples end the run with their line.
 fn refused_samples(alloc: Global, fault: &SampleFault) -> Result<Ending, AllocError>

@@ -8,7 +8,7 @@ pub enum Status {
     Done,
     /// The three files were read, and an inequality fails.
     Refused,
-    /// The words are no command. No run ends so while commands are still to be built: such words are `NotBuiltYet`.
+    /// The words are no command that is built.
     Usage,
     /// The filter's bytes are refused.
     BadFilter,
@@ -30,8 +30,6 @@ pub enum Status {
     Unbuildable,
     /// Memory was refused.
     NoMemory,
-    /// The words or a file are of a form that is not built yet.
-    NotBuiltYet,
 }
 
 /// The number that the program ends with where the words of its command line cannot be had as texts. No run ends so.

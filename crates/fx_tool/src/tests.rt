@@ -21,13 +21,6 @@ const CERT: &[u8] =
 const LOW_CERT: &[u8] =
     b"fixif certificate 1\nlength 1\nrows 2\nX 50\nX 50\noutputs 1\nE 9223372036854775808\nend\n";
 
-// 999999.9 against -16777215: the weights of the difference reach 2^88.
-const WIDE_FILTER: &[u8] =
-    b"form = \"tf\"\nb = [\"999999.9\"]\na = [\"1\"]\ninputs = [{ width = 16, bound = 100 }]\noutputs = [{ width = 16, error = \"1\" }]\naccumulator = 32\n";
-
-const WIDE_CODE: &[u8] =
-    b"#include \"fixif.h\"\nSTEP(32, 1, 1, 1)\n{\n  IN(u0, 16);\n  a = 0;\n  a += MUL(-16777215, u0, 0);\n  r0 = LOW(SAR(a, 0), 16);\n  OUT(0, r0);\n  s0 = r0;\n}\n";
-
 // y(k) = u(k) + 0.5 y(k-1).
 const RECURSIVE_FILTER: &[u8] =
     b"form = \"tf\"\nb = [\"1\"]\na = [\"1\", \"-0.5\"]\ninputs = [{ width = 16, bound = 100 }]\noutputs = [{ width = 16, error = \"3\" }]\naccumulator = 32\n";
@@ -37,6 +30,9 @@ const SHOWN: &[u8] =
 
 const RECURSIVE_CODE: &[u8] =
     b"#include \"fixif.h\"\nSTEP(32, 1, 1, 1)\n{\n  IN(u0, 16);\n  a = 1;\n  a += MUL(1, s0, 0);\n  a += MUL(1, u0, 1);\n  r0 = LOW(SAR(a, 1), 16);\n  OUT(0, r0);\n  s0 = r0;\n}\n";
+
+const RECURSIVE_CERT: &[u8] =
+    b"fixif certificate 1\nlength 64\nrows 2\nX 201\nX 200\noutputs 1\nE 18446744073709552016\nend\n";
 
 const ACCEPTED: &[u8] = b"accepted\nerror 0 0.500000000\n";
 
@@ -118,56 +114,57 @@ fn first_wrong(
     Ok(None)
 }
 
+// One byte more than a file may have.
+fn long_file(alloc: Global) -> Result<Vec<u8>, AllocError> {
+    vec![in alloc; b' '; 1_048_577]
+}
+
 #[test]
 fn judges_by_the_files(rt: HostRuntime) -> Result<(), Fail> {
-    let table: [Row<'_>; 8] = [
+    let long = long_file(rt.alloc())?;
+    let table: [Row<'_>; 9] = [
         (
             &[("f", FILTER), ("c", CODE), ("k", CERT)],
             Status::Done,
             ACCEPTED,
         ),
         (
+            &[("f", RECURSIVE_FILTER), ("c", RECURSIVE_CODE), ("k", RECURSIVE_CERT)],
+            Status::Done,
+            b"accepted\nerror 0 1.000000001\n",
+        ),
+        (
             &[("f", FILTER), ("c", CODE), ("k", LOW_CERT)],
             Status::Refused,
             b"refused I3 row 0 931560575722332356608 922337203685477580800\n",
         ),
-        (
-            &[("f", WIDE_FILTER), ("c", WIDE_CODE), ("k", CERT)],
-            Status::Refused,
-            b"refused I2 target 2 input 0 327931733603636139260274279 309485009821345068724781056\n",
-        ),
-        // A filter with a row that reads its own past has another layout.
-        (
-            &[("f", RECURSIVE_FILTER), ("c", CODE), ("k", CERT)],
-            Status::NotBuiltYet,
-            b"not built yet filter\n",
-        ),
-        (
-            &[("f", FILTER), ("c", b"x"), ("k", CERT)],
-            Status::NotBuiltYet,
-            b"not built yet code\n",
-        ),
-        (
-            &[("f", FILTER), ("c", CODE), ("k", b"x")],
-            Status::NotBuiltYet,
-            b"not built yet certificate\n",
-        ),
         // Later files are not asked for.
+        (&[("f", b"x")], Status::BadFilter, b"bad filter not toml\n"),
         (
-            &[("f", b"x")],
-            Status::NotBuiltYet,
-            b"not built yet filter\n",
+            &[("f", FILTER), ("c", b"@")],
+            Status::BadCode,
+            b"bad code token 0\n",
+        ),
+        (
+            &[("f", FILTER), ("c", &long)],
+            Status::TooLong,
+            b"too long CODE\n",
+        ),
+        (
+            &[("f", FILTER), ("c", CODE), ("k", b"fixif certificate 1\nlength 1\nrows 2\nX 051\n")],
+            Status::BadCertificate,
+            b"bad certificate number 4\n",
+        ),
+        (
+            &[("f", FILTER), ("c", CODE), ("k", &long)],
+            Status::TooLong,
+            b"too long CERT\n",
         ),
         (&[("f", FILTER), ("c", CODE)], Status::ReadFault, b""),
     ];
     let words = ["fixif", "check", "f", "c", "k"];
     assert_eq!(rt; first_wrong(rt.alloc(), &words, &table)?, None);
     Ok(())
-}
-
-// One byte more than a file may have.
-fn long_file(alloc: Global) -> Result<Vec<u8>, AllocError> {
-    vec![in alloc; b' '; 1_048_577]
 }
 
 #[test]
@@ -239,17 +236,18 @@ fn answers_faults_of_the_outside(rt: HostRuntime) -> Result<(), Fail> {
     Ok(())
 }
 
+const USAGE_LINE: &[u8] =
+    b"usage: fixif check FILTER CODE CERT, make FILTER CODE CERT, simulate CODE SAMPLES, gain FILTER, \
+      show FILTER, report FILTER CODE CERT, large NUMBER\n";
+
 #[test]
 fn other_words_are_no_command(rt: HostRuntime) -> Result<(), Fail> {
-    let table: [Row<'_>; 1] = [(
-        &[("f", RECURSIVE_FILTER)],
-        Status::NotBuiltYet,
-        b"not built yet words\n",
-    )];
+    let table: [Row<'_>; 1] = [(&[("f", RECURSIVE_FILTER)], Status::Usage, USAGE_LINE)];
     for words in [
         ["fixif", "show"].as_slice(),
         &["fixif", "show", "-f"],
         &["fixif", "show", "f", "f"],
+        &["fixif", "gain", "f"],
         &[],
     ] {
         assert_eq!(rt; first_wrong(rt.alloc(), words, &table)?, None);

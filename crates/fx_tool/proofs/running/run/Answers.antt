@@ -11,7 +11,9 @@ returns g c =
     let out = g.K.Sink.seen c.args.out.now in
     let out' = g.K.Sink.seen c.answer.new.out in
     record {
-      done = λ h. done_claims words before.files c.answer.result out.told out'.told h c.answer.ensures.answer;
-      placed = places_nothing words before.files after.files c.answer.result c.answer.ensures.files;
-      leaves = c.answer.ensures;
+      done = λ h. done_claims c.certificate_is_read_exactly.ensures words before.files c.answer.result out.told
+          out'.told h (c.answer.ensures.establishes h)
+          c.answer.ensures.leaves.answer;
+      placed = places_nothing words before.files after.files c.answer.result c.answer.ensures.leaves.files;
+      leaves = c.answer.ensures.leaves;
     }
