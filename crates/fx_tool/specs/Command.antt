@@ -41,7 +41,7 @@ verb_in [] word = None
 verb_in (v ∷ vs) word = if bytes_eq (word_of v) word then Some v else verb_in vs word
 
 -- the command with this word
-unfoldable pub verb_of : List ℕ → Option Verb
+abbrev pub verb_of : List ℕ → Option Verb
 verb_of word = verb_in VERBS word
 
 -- the names are plain words, one for each operand

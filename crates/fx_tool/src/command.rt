@@ -72,7 +72,6 @@ fn verb_in(verbs: &[Verb], word: &str) -> Option<Verb>
 }
 
 // The command with this word.
-#[tactic(auto, unfolding(crate::specs::Command::verb_of))]
 fn verb_of(word: &str) -> Option<Verb>
     ensures { result ≡ verb_of word.now }
 {
