@@ -1,7 +1,7 @@
 -- Sums of intervals, and products with 0.
-use Rattle.std.proofs.Common.{◌≡◌, ◌≢◌, ℕ, ◌+◌, ◌*◌, ◌/◌, ◌^◌, ◌<◌, ◌≤◌, arith, refl, ap, sym, ◌∙◌, true, List}
-use Rattle.std.proofs.Common.{length, get_or, set, get_or-set_same, get_or-set_other, ◌⊎◌, inl, inr}
-use Rattle.std.proofs.Math.IntN.{ℤ, pos, ◌+ℤ◌, ◌*ℤ◌, neg_ℤ}
+use Rattle.std.proofs.Common.{◌≡◌, ℕ, ◌+◌, ◌^◌, ◌<◌, ◌≤◌, arith, ap, ◌∙◌, List}
+use Rattle.std.proofs.Common.{length, set, get_or-set_same, get_or-set_other, ◌⊎◌, inl, inr}
+use Rattle.std.proofs.Math.IntN.{ℤ, pos, ◌*ℤ◌}
 use Rattle.std.specs.Prelude.{unsigned_abs}
 use Rattle.std.proofs.lemmas.Int.{ints}
 use Rattle.std.proofs.lemmas.Bool.{cases_eq}

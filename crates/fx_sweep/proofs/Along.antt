@@ -6,11 +6,11 @@ use mathlib.Core.Path.{fun_ext}
 use Rattle.std.proofs.lemmas.Bool.{cases_eq, cases_lt, eq-eqb, ne_eqb, cond-true, cond-false}
 use Rattle.std.proofs.Math.IntN.{ℤ, pos}
 use Rattle.fx_nums.specs.Arithmetic.{multiple}
-use Rattle.fx_nums.specs.Fraction.{Fraction, zero_fraction}
-use Rattle.fx_nums.specs.Interval.{Interval, plus, point}
+use Rattle.fx_nums.specs.Fraction.{Fraction}
+use Rattle.fx_nums.specs.Interval.{Interval, plus}
 use Rattle.fx_cross.specs.declared.cross.Link.{Link}
 use Rattle.fx_cross.specs.Table.{Table, HasPlaces, entry_at}
-use Rattle.fx_cross.specs.Walks.{Line, link_at, links_of, links_from, row_line, row_links}
+use Rattle.fx_cross.specs.Walks.{Line, links_of, links_from, row_line, row_links}
 use Rattle.fx_sweep.specs.Steps.{IsNarrow, with_multiples}
 use Rattle.fx_sweep.specs.Weights.{taken}
 use Rattle.fx_sweep.proofs.Added.{by_nothing, plus_nothing}

@@ -29,3 +29,4 @@ pub mod Tested
 pub mod Kept
 pub mod Lines
 pub mod SoFar
+pub mod Repeated

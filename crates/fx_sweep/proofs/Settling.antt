@@ -1,21 +1,19 @@
 -- The rows of a moment, from the last to the first.
-use Rattle.std.proofs.Common.{◌≡◌, ◌≢◌, ℕ, zero, suc, ◌+◌, ◌-◌, ◌^◌, ◌<◌, ◌≤◌, ◌⊎◌, List, [], ◌∷◌, Option, Some}
-use Rattle.std.proofs.Common.{None, length, get_or, refl, sym, ◌∙◌, ap, subst, inl, inr, arith, unsigned_abs}
-use Rattle.std.proofs.Math.IntN.{ℤ, pos, ◌+ℤ◌, ◌-ℤ◌, ◌*ℤ◌}
+use Rattle.std.proofs.Common.{◌≡◌, ◌≢◌, ℕ, suc, ◌+◌, ◌-◌, ◌<◌, ◌≤◌, ◌⊎◌, Option, Some}
+use Rattle.std.proofs.Common.{None, refl, sym, ◌∙◌, ap, inl, inr, arith, unsigned_abs}
+use Rattle.std.proofs.Math.IntN.{ℤ, pos, ◌+ℤ◌}
 use Rattle.std.specs.Int.Signed.{◌≤ℤ◌}
 use mathlib.Core.Path.{fun_ext}
 use Rattle.std.proofs.lemmas.Bool.{lt-ltb, le-ltb, cases_lt, cases_eq}
 use Rattle.std.proofs.lemmas.Int.{ints}
-use Rattle.std.proofs.lemmas.List.{get_or_past}
 use Rattle.fx_math.specs.Sums.{joined}
 use Rattle.fx_net.specs.Net.{Net, NetFits}
-use Rattle.fx_nums.specs.Arithmetic.{multiple, width}
+use Rattle.fx_nums.specs.Arithmetic.{width}
 use Rattle.fx_nums.specs.Fraction.{Fraction}
-use Rattle.fx_nums.specs.Interval.{Interval, magnitude, plus, point}
+use Rattle.fx_nums.specs.Interval.{Interval, magnitude, point}
 use Rattle.fx_sweep.specs.Range.{first_range}
 use Rattle.fx_sweep.specs.Steps.{IsRowAdded, greatest, places_of_row, row_places, row_value, with_multiples}
 use Rattle.fx_sweep.specs.Weights.{hand_on, settle}
-use Rattle.fx_sweep.specs.declared.target.Place.{Place}
 use Rattle.fx_sweep.specs.declared.target.RangeAt.{RangeAt}
 use Rattle.fx_sweep.proofs.Added.{by_nothing, plus_nothing}
 use Rattle.fx_sweep.proofs.Moments.{hand_on_past, settle_past}

@@ -1,6 +1,6 @@
 -- What a series keeps for a length, step by step.
-use Rattle.std.proofs.Common.{◌≡◌, ℕ, zero, suc, ◌+◌, ◌<◌, ◌≤◌, ◌⊎◌, inl, inr, List, length, arith, refl, ap, sym, ◌∙◌}
-use Rattle.std.proofs.Common.{subst, Option, None, Some, option_map}
+use Rattle.std.proofs.Common.{◌≡◌, ℕ, zero, suc, ◌+◌, ◌<◌, ◌≤◌, ◌⊎◌, inl, inr, List, length, arith, refl, sym, ◌∙◌}
+use Rattle.std.proofs.Common.{subst, Option, None, Some}
 use Rattle.std.proofs.lemmas.Bool.{cases_eq}
 use Rattle.std.proofs.lemmas.List.{get_or-replicate, get_or-set_other, get_or-set_same, length-replicate}
 use Rattle.std.specs.Option.{option_or}
@@ -17,7 +17,7 @@ use Rattle.fx_sweep.specs.Target.{start_of}
 use Rattle.fx_sweep.specs.declared.target.RangeAt.{RangeAt}
 use Rattle.fx_sweep.specs.declared.target.Target.{Target}
 use Rattle.fx_sweep.specs.declared.target.TargetRange.{TargetRange}
-use Rattle.fx_sweep.proofs.Kept.{held_stays, no_range_more, range_stays}
+use Rattle.fx_sweep.proofs.Kept.{held_stays, range_stays}
 
 -- ---- one length for each target
 
@@ -38,7 +38,7 @@ each_can_be_filled n targets lengths l can inside = record {
 
 -- ---- ranges
 
-first_none : {A : Type 0} (a b : Option A) → option_or a b ≡ None → a ≡ None
+pub first_none : {A : Type 0} (a b : Option A) → option_or a b ≡ None → a ≡ None
 first_none None b h = refl
 first_none (Some x) b h = h
 

@@ -1,5 +1,5 @@
 -- What is carried as a sweep begins.
-use Rattle.std.proofs.Common.{◌≡◌, ◌≢◌, ℕ, ◌+◌, ◌^◌, ◌<◌, ◌≤◌, ◌⊎◌, ◌==◌, cond, refl, sym, ◌∙◌, ap, inl, inr}
+use Rattle.std.proofs.Common.{◌≡◌, ◌≢◌, ℕ, ◌^◌, ◌≤◌, ◌⊎◌, ◌==◌, cond, sym, ◌∙◌, ap, inl, inr}
 use Rattle.std.proofs.Common.{arith, unsigned_abs, lit<, Bool, true, false}
 use Rattle.std.proofs.Math.IntN.{ℤ, pos, ◌+ℤ◌, ◌-ℤ◌, neg_ℤ}
 use Rattle.std.proofs.Math.Nat.{pow-le-pow_right}
@@ -7,7 +7,7 @@ use Rattle.std.proofs.lemmas.Int.{ints}
 use Rattle.std.proofs.lemmas.Bool.{cases_eq, eq-eqb, ne_eqb, cond-true, cond-false}
 use borrow.Author.Differences.{abs_is}
 use mathlib.Core.Path.{fun_ext}
-use Rattle.fx_nums.specs.Interval.{Interval, point, opposite}
+use Rattle.fx_nums.specs.Interval.{Interval, point}
 use Rattle.fx_sweep.specs.Steps.{IsNarrow, carried_width, greatest}
 use Rattle.fx_sweep.specs.Swept.{no_intervals}
 use Rattle.fx_sweep.specs.Target.{TargetFits, one, only, power, start_of, weights}

@@ -1,6 +1,6 @@
 -- A sweep keeps its limits, and a moment of it is that of the definitions.
-use Rattle.std.proofs.Common.{◌≡◌, ℕ, suc, ◌+◌, ◌*◌, ◌^◌, ◌<◌, ◌≤◌, Option, Some, None, List, refl, sym, ◌∙◌}
-use Rattle.std.proofs.Common.{ap, subst, arith, add-one, unsigned_abs, ◌++◌}
+use Rattle.std.proofs.Common.{◌≡◌, ℕ, suc, ◌+◌, ◌*◌, ◌<◌, Option, Some, None, List, refl, sym, ◌∙◌}
+use Rattle.std.proofs.Common.{ap, arith, add-one, unsigned_abs, ◌++◌}
 use Rattle.std.proofs.Math.IntN.{ℤ, pos, ◌+ℤ◌}
 use Rattle.std.proofs.lemmas.Int.{ints}
 use Rattle.std.specs.Option.{option_or}
@@ -8,15 +8,15 @@ use Rattle.fx_eqs.specs.declared.limits.TheConstants.{PORTS}
 use Rattle.fx_math.specs.Sums.{joined}
 use Rattle.fx_net.specs.Net.{Net}
 use Rattle.fx_nums.specs.Arithmetic.{width}
-use Rattle.fx_nums.specs.Interval.{Interval, magnitude, point}
+use Rattle.fx_nums.specs.Interval.{Interval, magnitude}
 use Rattle.fx_sweep.specs.Gains.{widths, row_gain, input_gain}
-use Rattle.fx_sweep.specs.Range.{first_range, first_range_in, places, range_at, value_at}
-use Rattle.fx_sweep.specs.Steps.{AreLong, AreNarrow, GainsFit, IsNarrow, NumbersFit, SweepFits, WidthsFit}
+use Rattle.fx_sweep.specs.Range.{first_range, range_at, value_at}
+use Rattle.fx_sweep.specs.Steps.{AreLong, AreNarrow, GainsFit, SweepFits, WidthsFit}
 use Rattle.fx_sweep.specs.Steps.{carried_width, greatest, greatest_width, input_places, input_value, range_in}
 use Rattle.fx_sweep.specs.Steps.{rest_places, rest_value, row_places, row_value, settled_rows, state_of}
-use Rattle.fx_sweep.specs.Swept.{State, Swept, gain_in, interval_in, whole_in, no_intervals}
+use Rattle.fx_sweep.specs.Swept.{Swept, gain_in, interval_in, whole_in, no_intervals}
 use Rattle.fx_sweep.specs.Target.{TargetFits, start_of}
-use Rattle.fx_sweep.specs.Weights.{carried, carry, inputs, settle, settled, to_input}
+use Rattle.fx_sweep.specs.Weights.{carried, carry, settle, settled, to_input}
 use Rattle.fx_sweep.specs.declared.limits.TheConstants.{GREATEST_LENGTH}
 use Rattle.fx_sweep.specs.declared.numbers.Numbers.{Numbers}
 use Rattle.fx_sweep.specs.declared.target.RangeAt.{RangeAt}

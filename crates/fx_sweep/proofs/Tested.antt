@@ -1,7 +1,5 @@
 -- The inputs of a moment, and what it carries on.
-use Rattle.std.proofs.Common.{◌≡◌, ℕ, suc, ◌+◌, ◌<◌, ◌≤◌, ◌⊎◌, Some, None, refl, sym, ◌∙◌, ap, inl, inr, arith, add-one}
-use Rattle.std.proofs.lemmas.Bool.{cases_lt}
-use mathlib.Core.Path.{fun_ext}
+use Rattle.std.proofs.Common.{◌≡◌, ℕ, ◌+◌, ◌<◌, Some, None, refl, add-one}
 use Rattle.fx_math.specs.Sums.{joined}
 use Rattle.fx_nums.specs.Interval.{Interval, magnitude}
 use Rattle.fx_sweep.specs.Range.{first_range}

@@ -1,21 +1,14 @@
 -- A whole moment, from its parts.
-use Rattle.std.proofs.Common.{◌≡◌, ℕ, ◌+◌, ◌*◌, ◌<◌, ◌≤◌, refl, sym, ◌∙◌, ap, subst, arith, unsigned_abs, List, ◌++◌}
-use Rattle.std.specs.Option.{option_or}
+use Rattle.std.proofs.Common.{◌≡◌, ℕ, ◌+◌, ◌*◌, ◌≤◌, refl, arith, List}
 use Rattle.std.specs.Prelude.{Result, Ok, Err, OnOk}
 use Rattle.std.proofs.lemmas.Int.{ints}
-use Rattle.fx_eqs.specs.declared.limits.TheConstants.{PORTS}
-use Rattle.fx_math.specs.Sums.{joined}
 use Rattle.fx_net.specs.Net.{Net}
 use Rattle.fx_nums.specs.Fraction.{Fraction}
 use Rattle.fx_nums.specs.Interval.{Interval, magnitude}
-use Rattle.fx_sweep.specs.Range.{first_range, places}
-use Rattle.fx_sweep.specs.Steps.{AreNarrow, IsNarrow, carried_width, greatest, input_places, input_value}
-use Rattle.fx_sweep.specs.Steps.{product_apart, product_bound, range_in, rest_places, rest_value, row_places}
-use Rattle.fx_sweep.specs.Steps.{row_value}
-use Rattle.fx_sweep.specs.Swept.{gain_in, interval_in}
+use Rattle.fx_sweep.specs.Steps.{AreNarrow, carried_width, greatest}
+use Rattle.fx_sweep.specs.Steps.{product_apart, product_bound, range_in}
+use Rattle.fx_sweep.specs.Swept.{interval_in}
 use Rattle.fx_sweep.specs.Weights.{carry, settle, taken, to_input}
-use Rattle.fx_sweep.specs.declared.numbers.Numbers.{Numbers}
-use Rattle.fx_sweep.proofs.Ranges.{range_append, same_range}
 
 pub carry_is : (net : Net) (n m : ℕ) (table : ℕ → ℕ → Fraction) (at : ℕ → Interval) → net.rows ≡ n → m ≡ n →
     table ≡ net.old → (λ (j : ℕ). taken m at (λ i. table i j)) ≡ carry net at

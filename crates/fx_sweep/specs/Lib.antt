@@ -14,3 +14,4 @@ pub mod AllTime
 pub mod Kept
 pub mod Filled
 pub mod Series
+pub mod Standing

@@ -1,12 +1,12 @@
 -- The parts of a moment, and the limits that a sweep keeps.
-use Rattle.std.specs.Prelude.{◌≡◌, ◌≢◌, ℕ, ◌+◌, ◌-◌, ◌*◌, ◌^◌, ◌<◌, ◌≤◌, nat_le, cond, ℤ, pos, ◌+ℤ◌, ◌≤ℤ◌, List}
+use Rattle.std.specs.Prelude.{◌≡◌, ◌≢◌, ℕ, ◌+◌, ◌-◌, ◌*◌, ◌^◌, ◌≤◌, nat_le, cond, ℤ, pos, ◌+ℤ◌, ◌≤ℤ◌, List}
 use Rattle.std.specs.Prelude.{[], ◌∷◌, length, unsigned_abs, Option, Some, None}
 use Rattle.std.specs.Option.{option_or}
 use Rattle.fx_math.specs.Sums.{joined}
 use Rattle.fx_eqs.specs.declared.limits.TheConstants.{PORTS}
 use Rattle.fx_nums.specs.Arithmetic.{multiple, width}
 use Rattle.fx_nums.specs.Fraction.{Fraction}
-use Rattle.fx_nums.specs.Interval.{Interval, plus, magnitude, point}
+use Rattle.fx_nums.specs.Interval.{Interval, plus, magnitude}
 use Rattle.fx_nums.specs.declared.limits.TheConstants.{OPERAND_BITS, APART_BITS}
 use Rattle.fx_net.specs.Net.{Net}
 use Rattle.fx_sweep.specs.Range.{first_range}

@@ -1,10 +1,10 @@
 -- What a sweep holds after so many moments.
-use Rattle.std.specs.Prelude.{◌≡◌, ⊤, ℕ, zero, suc, ◌+◌, ◌^◌, ◌-◌, min, ℤ, pos, List, slice_index_or, Option}
+use Rattle.std.specs.Prelude.{◌≡◌, ℕ, zero, suc, ◌+◌, ◌^◌, ◌-◌, min, ℤ, pos, List, slice_index_or, Option}
 use Rattle.std.specs.Prelude.{Some, None, Result, Ok, Err}
 use Rattle.fx_nums.specs.Interval.{Interval, point}
 use Rattle.fx_net.specs.Net.{Net}
 use Rattle.fx_sweep.specs.Gains.{widths, row_gain, input_gain}
-use Rattle.fx_sweep.specs.Range.{range_at, first_range_in}
+use Rattle.fx_sweep.specs.Range.{first_range_in}
 use Rattle.fx_sweep.specs.Target.{start_of}
 use Rattle.fx_sweep.specs.Weights.{carried, inputs}
 use Rattle.fx_sweep.specs.declared.target.RangeAt.{RangeAt}

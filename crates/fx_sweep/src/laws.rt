@@ -2,6 +2,7 @@ ghost use Rattle.fx_sweep.specs.Growth.{NoTotalIsNegative, TotalsGrow};
 ghost use Rattle.fx_sweep.specs.Laws.{PairTargets, RowTargets, TargetsLieBetween, TotalsBound};
 ghost use Rattle.fx_sweep.specs.Ordered.{IntervalsStayOrdered};
 ghost use Rattle.fx_sweep.specs.Padding.{EmptyRowsChangeNothing};
+ghost use Rattle.fx_sweep.specs.Standing.{StandingMomentsMeetNoRange, StandingMomentsRepeat};
 
 use fx_net::runs_are_blocks;
 
@@ -45,4 +46,11 @@ pub fn totals_grow()
 /// numbers as without them, and reaches the limit at the same place. So no number depends on the size of a net.
 pub fn empty_rows_change_nothing()
     ensures { EmptyRowsChangeNothing }
+{}
+
+/// A law with nothing to run: where a moment leaves what is carried as it was, each later moment adds what it adds. If
+/// it met no range, they meet none as long as the gains stay below the limit.
+pub fn standing_moments_repeat()
+    ensures numbers { StandingMomentsRepeat }
+    ensures ranges { StandingMomentsMeetNoRange }
 {}

@@ -20,8 +20,8 @@ mod totals_tests;
 
 pub use all_time::bounds_hold_for_all_time;
 pub use laws::{
-    empty_rows_change_nothing, intervals_stay_ordered, targets_have_these_values,
-    targets_lie_between, totals_bound, totals_grow,
+    empty_rows_change_nothing, intervals_stay_ordered, standing_moments_repeat,
+    targets_have_these_values, targets_lie_between, totals_bound, totals_grow,
 };
 pub use limits::{GREATEST_LENGTH, GREATEST_SHIFT, MOST_LENGTHS, sweep_limits_are_these};
 pub use series::Series;

@@ -1,4 +1,4 @@
-use Rattle.std.proofs.Common.{◌≡◌, ◌<◌, ◌^◌, arith, rules, length, subst, sym, ap, ◌∙◌, get_or, set, get_or-set_same}
+use Rattle.std.proofs.Common.{◌≡◌, arith, rules, ap, ◌∙◌, set, get_or-set_same}
 use Rattle.std.proofs.Math.IntN.{pos}
 use Rattle.std.specs.Prelude.{unsigned_abs, FitsSigned}
 use Rattle.std.specs.Int.{w128}

@@ -1,14 +1,13 @@
-use Rattle.std.proofs.Common.{◌≡◌, ℕ, ◌+◌, ◌∷◌, List, arith, ap, ◌∙◌, sym, subst, refl, rules}
+use Rattle.std.proofs.Common.{◌≡◌, ◌+◌, ◌∷◌, List, arith, ap, ◌∙◌, sym, subst, refl, rules}
 use Rattle.std.proofs.lemmas.Int.{ints}
 use Rattle.std.proofs.Math.IntN.{pos}
 use mathlib.Core.Path.{fun_ext}
 use Rattle.fx_cross.specs.declared.cross.Link.{Link}
 use Rattle.fx_cross.specs.Rests.{row_rest}
-use Rattle.fx_cross.specs.Table.{entry_at}
 use Rattle.fx_cross.specs.Walks.{row_links}
 use Rattle.fx_nums.specs.Arithmetic.{multiple}
 use Rattle.fx_nums.specs.Interval.{plus}
-use Rattle.fx_sweep.specs.Steps.{product_apart, product_bound, with_multiples}
+use Rattle.fx_sweep.specs.Steps.{product_apart, product_bound}
 use Rattle.fx_sweep.specs.Swept.{interval_in}
 use Rattle.fx_sweep.proofs.Added.{wider}
 use Rattle.fx_sweep.proofs.Along.{given, IsAhead, row_rises, row_given, left_more, ahead_more, link_here}

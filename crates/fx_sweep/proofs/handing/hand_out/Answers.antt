@@ -1,7 +1,6 @@
-use Rattle.std.proofs.Common.{◌≡◌, ℕ, ◌+◌, ◌*◌, length, arith, ap, ◌∙◌, sym, subst, rules}
-use Rattle.std.proofs.lemmas.Int.{ints, to_z-of_z}
+use Rattle.std.proofs.Common.{◌≡◌, ℕ, ◌+◌, ◌*◌, length, arith, ap, ◌∙◌, subst, rules}
 use Rattle.std.proofs.lemmas.List.{get_or_read}
-use Rattle.std.proofs.Math.IntN.{ℤ, pos}
+use Rattle.std.proofs.Math.IntN.{pos}
 use Rattle.fx_cross.specs.Table.{entry_at}
 use Rattle.fx_nums.specs.Interval.{Interval, point}
 use Rattle.fx_sweep.specs.Steps.{with_multiples, product_bound, product_apart}

@@ -1,13 +1,11 @@
-use Rattle.std.proofs.Common.{◌≡◌, ℕ, arith, ap, ◌∙◌, sym, subst}
-use Rattle.std.proofs.Math.IntN.{neg_ℤ}
+use Rattle.std.proofs.Common.{◌≡◌, arith, ap, ◌∙◌, subst}
 use Rattle.std.proofs.lemmas.Int.{ints, to_z-of_z}
 use Rattle.std.specs.Int.{w8}
 use Rattle.std.specs.Prelude.{FitsSigned}
 use borrow.Author.Differences.{abs_is}
-use Rattle.fx_nums.specs.Interval.{Interval, point, opposite}
+use Rattle.fx_nums.specs.Interval.{point, opposite}
 use Rattle.fx_sweep.specs.Swept.{interval_in}
-use Rattle.fx_sweep.specs.Target.{TargetFits, power, start_of}
-use Rattle.fx_sweep.specs.declared.target.Target.{Target}
+use Rattle.fx_sweep.specs.Target.{TargetFits, power}
 use Rattle.fx_sweep.proofs.Started.{row_started, pair_started}
 use Rattle.fx_sweep.proofs.numbers.put_target.Goals as goal
 

@@ -1,4 +1,4 @@
-use Rattle.std.proofs.Common.{◌≡◌, ℕ, ◌+◌, ◌≤◌, arith, rules, ap, ◌∙◌, sym, subst, unsigned_abs}
+use Rattle.std.proofs.Common.{◌≡◌, ◌+◌, ◌≤◌, arith, rules, ap, ◌∙◌, subst, unsigned_abs}
 use Rattle.std.proofs.lemmas.Int.{ints, to_z-of_z}
 use Rattle.std.specs.Int.{w128}
 use Rattle.std.specs.Prelude.{FitsSigned}

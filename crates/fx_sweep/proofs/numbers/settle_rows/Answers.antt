@@ -1,6 +1,5 @@
-use Rattle.std.proofs.Common.{◌≡◌, ℕ, suc, ◌+◌, ◌-◌, ◌*◌, ◌^◌, ◌<◌, ◌≤◌, None, Some, arith, ap, ◌∙◌, sym, subst, rules}
+use Rattle.std.proofs.Common.{◌≡◌, ℕ, suc, ◌+◌, ◌-◌, ◌*◌, ◌^◌, ◌<◌, Some, arith, ◌∙◌, sym, subst}
 use Rattle.std.proofs.lemmas.Grind.{common_steps}
-use Rattle.fx_cross.specs.Table.{entry_at}
 use Rattle.fx_net.specs.Tables.{net_of}
 use Rattle.fx_nums.specs.Fraction.{Fraction}
 use Rattle.fx_sweep.specs.Steps.{IsRowAdded, carried_width, greatest, greatest_width, product_apart, product_bound}

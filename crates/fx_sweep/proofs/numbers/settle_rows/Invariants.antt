@@ -1,4 +1,4 @@
-use Rattle.std.proofs.Common.{◌≡◌, ℕ, ◌+◌, ◌-◌, ◌*◌, ◌<◌, length}
+use Rattle.std.proofs.Common.{◌≡◌, ℕ, ◌+◌, ◌-◌, ◌*◌, length}
 use Rattle.fx_net.specs.Tables.{net_of}
 use Rattle.fx_sweep.specs.Steps.{AreNarrow, GainsFit, WidthsFit, carried_width, greatest, greatest_width}
 use Rattle.fx_sweep.specs.Steps.{product_apart, product_bound}

@@ -1,4 +1,4 @@
-use Rattle.std.proofs.Common.{◌≡◌, ℕ, ◌+◌, ◌<◌, ◌≤◌, ◌⊎◌, None, Some, arith, ap, ◌∙◌, sym, subst, inl, inr, length}
+use Rattle.std.proofs.Common.{◌≡◌, ◌≤◌, Some, arith, ◌∙◌, sym, subst, inl, inr, length}
 use Rattle.std.proofs.lemmas.Grind.{common_steps}
 use Rattle.std.proofs.lemmas.Bool.{cases_eq}
 use Rattle.std.proofs.lemmas.List.{get_or_read}

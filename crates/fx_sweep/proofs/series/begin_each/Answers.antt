@@ -1,9 +1,7 @@
-use Rattle.std.proofs.Common.{◌≡◌, ℕ, ◌<◌, ◌∙◌, List, arith, length, subst}
+use Rattle.std.proofs.Common.{◌<◌, ◌∙◌, arith, length, subst}
 use Rattle.std.proofs.lemmas.List.{length-set}
-use Rattle.fx_net.specs.Net.{Net}
 use Rattle.fx_sweep.specs.Filled.{length_in}
-use Rattle.fx_sweep.specs.Series.{IsSoFar, KeptAtLength}
-use Rattle.fx_sweep.specs.declared.target.Target.{Target}
+use Rattle.fx_sweep.specs.Series.{IsSoFar}
 use Rattle.fx_sweep.proofs.SoFar.{set_each}
 use Rattle.fx_sweep.proofs.series.begin_each.Goals as goal
 

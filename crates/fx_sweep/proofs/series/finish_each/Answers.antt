@@ -1,8 +1,8 @@
-use Rattle.std.proofs.Common.{◌≡◌, ℕ, ◌<◌, ◌∙◌, arith, length, subst, sym}
+use Rattle.std.proofs.Common.{◌<◌, ◌∙◌, arith, length, subst, sym}
 use Rattle.std.proofs.lemmas.List.{get_or_default, length-set}
 use Rattle.fx_net.specs.Tables.{net_of}
 use Rattle.fx_sweep.specs.Filled.{length_in}
-use Rattle.fx_sweep.specs.Series.{IsDone, IsSoFar, KeptAtLength, nothing_kept, part_in}
+use Rattle.fx_sweep.specs.Series.{IsDone, IsSoFar, KeptAtLength, nothing_kept}
 use Rattle.fx_sweep.proofs.SoFar.{each_can_be_filled, set_each, set_rest}
 use Rattle.fx_sweep.proofs.series.finish_each.Goals as goal
 

@@ -1,6 +1,6 @@
-use Rattle.std.proofs.Common.{◌≡◌, ℕ, ◌<◌, ◌≤◌, ◌∙◌, None, arith, length, ap, refl}
+use Rattle.std.proofs.Common.{◌≡◌, ◌<◌, ◌≤◌, ◌∙◌, None, arith, length, ap, refl}
 use Rattle.std.proofs.lemmas.List.{get_or_read}
-use Rattle.fx_sweep.specs.Series.{KeptAtLength, WantUpTo, nothing_kept, part_in, still_wanted}
+use Rattle.fx_sweep.specs.Series.{nothing_kept, part_in, still_wanted}
 use Rattle.fx_sweep.proofs.SoFar.{each_before, wanted_at_most, wanted_when_open}
 use Rattle.fx_sweep.proofs.series.longest.Goals as goal
 

@@ -1,4 +1,4 @@
-use Rattle.std.proofs.Common.{◌≡◌, ℕ, ◌<◌, ◌∙◌, arith, length, subst, sym}
+use Rattle.std.proofs.Common.{◌<◌, ◌∙◌, arith, length, subst}
 use Rattle.std.proofs.lemmas.List.{get_or_default, length-set}
 use Rattle.fx_sweep.specs.Series.{IsRefusedOn, KeptAtLength, nothing_kept, part_in}
 use Rattle.fx_sweep.proofs.SoFar.{set_each, set_rest}

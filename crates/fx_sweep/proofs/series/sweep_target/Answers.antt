@@ -1,7 +1,6 @@
-use Rattle.std.proofs.Common.{◌≡◌, ◌<◌, ◌≤◌, ◌∙◌, arith, length, refl, subst, sym, None}
+use Rattle.std.proofs.Common.{◌≡◌, ◌≤◌, ◌∙◌, arith, refl, subst, sym}
 use Rattle.fx_net.specs.Tables.{net_of}
 use Rattle.fx_sweep.specs.Filled.{length_in, target_in}
-use Rattle.fx_sweep.specs.Series.{AreSoFar}
 use Rattle.fx_sweep.specs.Swept.{Swept}
 use Rattle.fx_sweep.specs.declared.limits.TheConstants.{GREATEST_LENGTH}
 use Rattle.fx_sweep.proofs.SoFar.{all_passed, want_up_to}

@@ -1,6 +1,4 @@
 use Rattle.std.proofs.Common.{length, refl, subst, sym}
-use Rattle.fx_sweep.specs.Filled.{AreHeld}
-use Rattle.fx_sweep.specs.Kept.{Kept}
 use Rattle.fx_sweep.specs.Series.{IsSoFar, KeptAtLength, for_each}
 use Rattle.fx_sweep.proofs.SoFar.{all_done}
 use Rattle.fx_sweep.proofs.at_length.AtLength.finish.Goals as goal

@@ -1,5 +1,5 @@
-use Rattle.std.proofs.Common.{◌≡◌, ◌<◌, ◌≤◌, ◌∙◌, None, ap, arith, refl}
-use Rattle.fx_sweep.specs.Series.{IsSoFar, KeptAtLength, still_wanted}
+use Rattle.std.proofs.Common.{◌<◌, ap, arith, refl}
+use Rattle.fx_sweep.specs.Series.{KeptAtLength, still_wanted}
 use Rattle.fx_sweep.proofs.SoFar.{open_is, target_passed, target_refused, wanted_when_open}
 use Rattle.fx_sweep.proofs.at_length.AtLength.refuse.Goals as goal
 

@@ -1,4 +1,4 @@
-use Rattle.std.proofs.Common.{◌≡◌, ◌∙◌, List, length, refl, rules, subst, sym}
+use Rattle.std.proofs.Common.{◌≡◌, List, refl, rules, subst, sym}
 use Rattle.std.proofs.lemmas.List.{places, with_items_is}
 use Rattle.std.specs.Vec.{with_items}
 use Rattle.fx_net.specs.Tables.{net_of}

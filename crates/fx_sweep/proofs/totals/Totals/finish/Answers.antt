@@ -1,4 +1,4 @@
-use Rattle.std.proofs.Common.{ap, length, sym}
+use Rattle.std.proofs.Common.{ap, sym}
 use Rattle.fx_sweep.specs.Kept.{Kept}
 use Rattle.fx_sweep.proofs.Kept.{filled_from}
 use Rattle.fx_sweep.proofs.Lines.{kept_of}
