@@ -1,14 +1,9 @@
 -- The first failure of several tests.
-use Rattle.std.proofs.Common.{◌≡◌, ℕ, zero, suc, ◌+◌, ◌<◌, arith, refl, ap, ap₂, sym, ◌∙◌, subst, inl, inr, add-one}
+use Rattle.std.proofs.Common.{◌≡◌, ℕ, zero, suc, ◌+◌, ◌<◌, arith, refl, ap, ap₂, sym, ◌∙◌, subst, inl, inr}
 use Rattle.std.specs.Prelude.{Option, Some, None}
 use Rattle.std.specs.Option.{option_or}
 use Rattle.std.proofs.lemmas.Bool.{cases_lt}
 use Rattle.fx_block.specs.Failure.{Failure, first_of}
-
--- one test more that holds
-pub none_more : (i : ℕ) (f : ℕ → Option Failure) (told : Option Failure) → first_of i f ≡ None → told ≡ f i →
-    told ≡ None → first_of (i + 1) f ≡ None
-none_more i f told before here none = rw (add-one i, before) (sym here ∙ none)
 
 -- the first that fails stays the first
 pub first_stays : (i n : ℕ) (f : ℕ → Option Failure) (x : Failure) → i < n → first_of i f ≡ None → f i ≡ Some x →

@@ -1,6 +1,7 @@
 mod FirstFailures
 mod Outputs
 mod Padding
+mod Parting
 mod Places
 mod Steps
 mod Sweeps

@@ -1,11 +1,10 @@
 -- The targets fit into the net.
-use Rattle.std.proofs.Common.{◌≡◌, ℕ, ◌+◌, ◌-◌, ◌<◌, ◌≤◌, List, length, get_or, map, arith, refl, ap, sym, ◌∙◌, subst}
+use Rattle.std.proofs.Common.{◌≡◌, ℕ, ◌+◌, ◌-◌, ◌<◌, ◌≤◌, List, length, get_or, arith, ap, ◌∙◌, subst}
 use Rattle.std.proofs.Common.{inl, inr}
-use Rattle.std.specs.Prelude.{unsigned_abs, slice_index}
+use Rattle.std.specs.Prelude.{unsigned_abs}
 use Rattle.std.proofs.lemmas.Int.{ints}
 use Rattle.std.proofs.lemmas.Bool.{cases_lt, cond-true, cond-false, lt-ltb, le-ltb}
 use Rattle.std.proofs.lemmas.List.{get_or-map, length-map}
-use Rattle.fx_eqs.specs.Expanded.{row_place}
 use Rattle.fx_eqs.specs.Fits.{EquationsFit}
 use Rattle.fx_files.specs.Filter.{Filter}
 use Rattle.fx_files.specs.Fits.{FilterFits, OutputFits}
@@ -13,8 +12,8 @@ use Rattle.fx_files.specs.declared.formats.OutputFormat.{OutputFormat}
 use Rattle.fx_net.proofs.Positions.{row_inside}
 use Rattle.fx_code.specs.Code.{Code}
 use Rattle.fx_code.specs.Fits.{CodeFits}
-use Rattle.fx_cert.specs.Certificate.{Certificate, CertificateFits, output_length, row_length}
-use Rattle.fx_sweep.specs.Filled.{CanBeFilled, length_in, target_in}
+use Rattle.fx_cert.specs.Certificate.{Certificate, output_length, row_length}
+use Rattle.fx_sweep.specs.Filled.{length_in, target_in}
 use Rattle.fx_sweep.specs.Target.{TargetFits}
 use Rattle.fx_sweep.specs.declared.target.Target.TheVariants.{Row}
 use Rattle.fx_block.specs.Formats.{output_at, shift_of}

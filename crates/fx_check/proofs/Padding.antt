@@ -17,7 +17,7 @@ use Rattle.fx_eqs.specs.Lags.{greatest_lag}
 use Rattle.fx_eqs.specs.declared.term.Source.TheVariants.{Row, In as Input}
 use Rattle.fx_eqs.specs.declared.term.Term.{Term}
 use Rattle.fx_net.specs.Net.{Net, empty_net}
-use Rattle.fx_net.specs.Rows.{AreEmpty, ReadFits, coefficient, coefficient_or, is_within, put_rows, reads_old, row_of}
+use Rattle.fx_net.specs.Rows.{AreEmpty, ReadFits, coefficient_or, is_within, put_rows, reads_old, row_of}
 use Rattle.fx_net.proofs.Empty.{new_rows_are_empty}
 use Rattle.fx_net.proofs.OtherRows.{other_rows_stay_empty}
 use Rattle.fx_net.proofs.Positions.{row_hold_end, row_inside, sum_within}
@@ -135,7 +135,7 @@ module _ (s : Equations) (fits : EquationsFit s) where
       (All-filter (λ (t : Term). eqb t.row i) (λ (t : Term).
       Below (length (expanded s)) (reads_source s t.from t.lag)) s.terms (λ k d l. term_below k d l))
 
-  pub expanded_below : RowsBelow (length (expanded s)) (expanded s)
+  expanded_below : RowsBelow (length (expanded s)) (expanded s)
   expanded_below =
       let n = length (expanded s) in
       let inputs = joined s.inputs (λ j. hold_rows (In j) (greatest_lag (Input j) s.terms) (input_hold_place s j)) in

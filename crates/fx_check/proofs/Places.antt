@@ -1,14 +1,11 @@
 -- Lists and arrays that are filled place by place.
-use Rattle.std.proofs.Common.{◌≡◌, ℕ, ◌+◌, ◌<◌, ◌≤◌, List, [], ◌∷◌, ◌++◌, length, take, set, get_or, replicate}
+use Rattle.std.proofs.Common.{◌≡◌, ℕ, ◌+◌, ◌<◌, ◌≤◌, List, [], ◌∷◌, ◌++◌, length, take, set, get_or}
 use Rattle.std.proofs.Common.{◌⊎◌, inl, inr, arith, refl, ap, ap₂, sym, ◌∙◌, add-one, zero, suc}
-use Rattle.std.proofs.Math.IntN.{ℤ, pos}
 use Rattle.std.proofs.Common.{get_or-set_same, get_or-set_other}
 use Rattle.std.proofs.lemmas.Bool.{cases_eq, cases_lt}
-use Rattle.std.proofs.lemmas.List.{get_or_past, get_or_append_left, get_or-append-add, get_or-replicate}
-use Rattle.std.proofs.lemmas.List.{length-append, length-replicate, take_more_set}
+use Rattle.std.proofs.lemmas.List.{get_or_append_left, get_or-append-add}
+use Rattle.std.proofs.lemmas.List.{length-append, take_more_set}
 use Rattle.fx_math.specs.Sums.{joined}
-use Rattle.fx_sweep.specs.Kept.{AreUpTo, IsUpTo}
-use Rattle.fx_sweep.specs.Swept.{whole_in}
 
 -- ---- the list f 0, f 1, .., f (n - 1)
 
@@ -38,32 +35,18 @@ listed_at (suc n) f t d l =
           ∙ get_or-append-add (listed n f) (f n ∷ []) 0 d ∙ ap f (let e : n ≡ t = omega arith in e)
     ]
 
--- ---- arrays with the first numbers of f
+-- ---- arrays with the first of f
 
-pub first_more : (xs : List ℤ) (t : ℕ) (x : ℤ) (f : ℕ → ℤ) → t < length xs →
-    ((k : ℕ) → k < t → whole_in xs k ≡ f k) → x ≡ f t → (k : ℕ) → k < t + 1 → whole_in (set xs t x) k ≡ f k
-first_more xs t x f l before here k h = by_place (cases_eq k t)
+pub first_more : {A : Type 0} (d : A) (xs : List A) (t : ℕ) (x : A) (f : ℕ → A) → t < length xs →
+    ((k : ℕ) → k < t → get_or xs k d ≡ f k) → x ≡ f t → (k : ℕ) → k < t + 1 → get_or (set xs t x) k d ≡ f k
+first_more {A} d xs t x f l before here k h = by_place (cases_eq k t)
   where
-    by_place : (k ≡ t) ⊎ (k ≡ t → ⊥) → whole_in (set xs t x) k ≡ f k
-    by_place (inl e) = rw e (get_or-set_same xs t x (pos 0) l ∙ here)
-    by_place (inr ne) = get_or-set_other xs t k x (pos 0) ne ∙ before k (omega (arith, h, ne))
+    by_place : (k ≡ t) ⊎ (k ≡ t → ⊥) → get_or (set xs t x) k d ≡ f k
+    by_place (inl e) = rw e (get_or-set_same xs t x d l ∙ here)
+    by_place (inr ne) = get_or-set_other xs t k x d ne ∙ before k (omega (arith, h, ne))
 
--- what stands behind stays 0
-pub behind_stays : (xs : List ℤ) (t : ℕ) (x : ℤ) → ((k : ℕ) → t ≤ k → whole_in xs k ≡ pos 0) → (k : ℕ) →
-    t + 1 ≤ k → whole_in (set xs t x) k ≡ pos 0
-behind_stays xs t x before k h =
-    get_or-set_other xs t k x (pos 0) (λ e. omega (arith, e, h)) ∙ before k (omega (arith, h))
-
-pub zeros : (n k : ℕ) → whole_in (replicate n (pos 0)) k ≡ pos 0
-zeros n k = elim (cases_lt k n) [
-  | inl l ↦ get_or-replicate n k (pos 0) (pos 0) l
-  | inr r ↦ get_or_past (replicate n (pos 0)) k (pos 0) (let e = length-replicate {A = ℤ} n (pos 0) in omega (arith, e, r))
-]
-
-pub fits_more : (most : ℕ) (xs : List ℤ) (t : ℕ) (x : ℤ) → t < length xs → AreUpTo most xs → IsUpTo most x →
-    AreUpTo most (set xs t x)
-fits_more most xs t x l before here k = by_place (cases_eq k t)
-  where
-    by_place : (k ≡ t) ⊎ (k ≡ t → ⊥) → IsUpTo most (whole_in (set xs t x) k)
-    by_place (inl e) = rw (e, get_or-set_same xs t x (pos 0) l) here
-    by_place (inr ne) = rw (get_or-set_other xs t k x (pos 0) ne) (before k)
+-- what stands behind stays as it is
+pub behind_stays : {A : Type 0} (d : A) (xs : List A) (t : ℕ) (x : A) → ((k : ℕ) → t ≤ k → get_or xs k d ≡ d) →
+    (k : ℕ) → t + 1 ≤ k → get_or (set xs t x) k d ≡ d
+behind_stays d xs t x before k h =
+    get_or-set_other xs t k x d (λ e. omega (arith, e, h)) ∙ before k (omega (arith, h))

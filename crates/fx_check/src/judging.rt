@@ -1,34 +1,28 @@
 //! The judgement: form, sweeps, and what the sweeps are compared with.
 
-ghost use Rattle.std.specs.Prelude.{◌≡◌, ◌+◌, ◌^◌, ◌<◌, ◌≤◌, OnOk, length};
+ghost use Rattle.std.specs.Prelude.{◌≡◌, ◌+◌, ◌^◌, ◌<◌, ◌≤◌, OnOk, length, Some, None};
 ghost use Rattle.std.specs.Option.{option_or};
-ghost use Rattle.fx_block.specs.Failure.{
-  bound_failure,
-  error_failure,
-  first_failure,
-  form_failure,
-  range_failure,
-  sum_failure,
-  wanted_failure,
-  word_failure,
-};
+ghost use Rattle.fx_block.specs.Failure.{first_failure, form_failure, range_failure};
 ghost use Rattle.fx_block.specs.Passes.{row_count};
 ghost use Rattle.fx_check.specs.Targets.{HasTotals, lengths_of, padded_net, target_count, targets_of};
-ghost use Rattle.fx_check.specs.Verdict.{failure_of, told_by};
+ghost use Rattle.fx_check.specs.Report.{IsReportOf, parts_of};
+ghost use Rattle.fx_check.specs.Verdict.{compared_failure, failure_in, failure_of, told_by};
 ghost use Rattle.fx_code.specs.Code.{IsWhole};
 ghost use Rattle.fx_net.specs.Tables.{net_of};
 ghost use Rattle.fx_sweep.specs.Filled.{Filled};
 
 use crate::bounds::{test_bounds, test_errors, test_sums, test_wanted_errors, test_words};
-use crate::form::test_form;
+use crate::form::{joint_rows, output_count, test_form};
 use crate::numbers::{input_bounds, row_bounds};
 use crate::refusal::Refusal;
+use crate::report::Report;
 use crate::targets::{MOST_TARGETS, lengths, target_count, targets};
-use crate::verdict::Verdict;
+use crate::verdict::{Verdict, verdict_of};
 use fx_block::Inequality;
 use fx_cert::{Cert, certificates_fit};
 use fx_code::{Program, programs_fit};
-use fx_eqs::systems_fit;
+use fx_eqs::{PORTS, systems_fit};
+use fx_error::{Parts, split};
 use fx_files::{Filter, filters_fit};
 use fx_net::{LARGEST_NET, Net, other_rows_stay};
 use fx_nums::OPERAND_BITS;
@@ -42,6 +36,13 @@ pub struct Judge<const N: usize> {
     sweep: Sweep<N>,
     totals: Totals<N>,
 }
+
+// No parts.
+const NO_PARTS: Parts = Parts {
+    rounding: 0,
+    difference: 0,
+    rest: 0,
+};
 
 // The rows of a program and, behind them, the expanded rows of a filter in a net.
 fn put_joint<const N: usize>(net: &mut Net<N>, f: &Filter, p: &Program)
@@ -127,6 +128,25 @@ impl<const N: usize> Judge<N> {
         totals
     }
 
+    // Totals, bounds and errors of what was swept, against what they have to be at most.
+    fn compare(&self, f: &Filter, p: &Program, c: &Cert) -> Result<(), Refusal>
+        requires whole { IsWhole p.now }
+        requires room { row_count f.now p.now ≤ N }
+        requires outputs { length p.now.outputs ≡ length f.now.outputs }
+        requires rows { length c.now.bounds ≡ row_count f.now p.now }
+        requires errors { length c.now.errors ≡ length f.now.outputs }
+        requires filled { Filled self.now.totals (padded_net N f.now p.now) (targets_of f.now p.now)
+            (lengths_of f.now p.now c.now) }
+        ensures { told_by result ≡ compared_failure f.now p.now c.now }
+    {
+        let totals = self.totals(f, p, c);
+        test_bounds(f, p, c, &totals)?;
+        test_words(p, c)?;
+        test_sums(p, c)?;
+        test_errors(f, p, c, &totals)?;
+        test_wanted_errors(f, c)
+    }
+
     // All inequalities, in their order.
     fn test(&mut self, f: &Filter, p: &Program, c: &Cert) -> Result<(), Refusal>
         requires whole { IsWhole p.now }
@@ -135,12 +155,7 @@ impl<const N: usize> Judge<N> {
     {
         test_form(f, p, c)?;
         self.sweep(f, p, c)?;
-        let totals = self.totals(f, p, c);
-        test_bounds(f, p, c, &totals)?;
-        test_words(p, c)?;
-        test_sums(p, c)?;
-        test_errors(f, p, c, &totals)?;
-        test_wanted_errors(f, c)
+        self.compare(f, p, c)
     }
 
     /// Accepted exactly where all inequalities hold of a filter, a whole program and a certificate; else the first
@@ -151,13 +166,61 @@ impl<const N: usize> Judge<N> {
         requires room { row_count f.now p.now ≤ N }
         ensures { failure_of result ≡ first_failure f.now p.now c.now }
     {
-        match self.test(f, p, c) {
-            Ok(()) => Verdict::Accepted,
-            Err(refusal) => Verdict::Refused {
-                which: refusal.which,
-                left: refusal.left,
-                right: refusal.right,
-            },
+        verdict_of(self.test(f, p, c))
+    }
+
+    // The parts of the totals of all pairs that were swept.
+    fn parts(&self, f: &Filter, p: &Program, c: &Cert) -> [Parts; PORTS]
+        requires whole { IsWhole p.now }
+        requires room { row_count f.now p.now ≤ N }
+        requires outputs { length p.now.outputs ≡ length f.now.outputs }
+        requires rows { length c.now.bounds ≡ row_count f.now p.now }
+        requires filled { Filled self.now.totals (padded_net N f.now p.now) (targets_of f.now p.now)
+            (lengths_of f.now p.now c.now) }
+        ensures { result ≡ parts_of f.now p.now c.now }
+    {
+        filters_fit(f);
+        systems_fit(f.eqs());
+        programs_fit(p);
+        empty_rows_change_nothing();
+        totals_fit(&self.totals);
+        let bounds = input_bounds(f);
+        let x: [i64; N] = row_bounds(c);
+        let rows = joint_rows(f, p);
+        let mut parts = [NO_PARTS; PORTS];
+        for o in 0..output_count(f) {
+            parts[o] = split(&self.totals, rows + o, &bounds, &x);
         }
+        parts
+    }
+
+    /// The verdict, and the parts of the total of each output's pair where the form holds and no sweep reaches its
+    /// limit. It takes what `verdict` takes, and no memory.
+    pub fn report(&mut self, f: &Filter, p: &Program, c: &Cert) -> Report
+        requires whole { IsWhole p.now }
+        requires room { row_count f.now p.now ≤ N }
+        ensures { IsReportOf f.now p.now c.now result }
+    {
+        if let Err(refusal) = test_form(f, p, c) {
+            return without_parts(refusal);
+        }
+        if let Err(refusal) = self.sweep(f, p, c) {
+            return without_parts(refusal);
+        }
+        Report {
+            verdict: verdict_of(self.compare(f, p, c)),
+            parts: Some(self.parts(f, p, c)),
+        }
+    }
+}
+
+// The report where the form differs or a sweep reaches its limit.
+fn without_parts(refusal: Refusal) -> Report
+    ensures verdict { failure_of result.verdict ≡ Some (failure_in refusal) }
+    ensures parts { result.parts ≡ None }
+{
+    Report {
+        verdict: verdict_of(Err(refusal)),
+        parts: None,
     }
 }

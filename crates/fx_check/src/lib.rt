@@ -6,6 +6,7 @@ mod form;
 mod judging;
 mod numbers;
 mod refusal;
+mod report;
 mod sizes;
 mod targets;
 #[cfg(test)]
@@ -13,5 +14,6 @@ mod tests;
 mod verdict;
 
 pub use judging::Judge;
-pub use sizes::judge;
+pub use report::Report;
+pub use sizes::{explain, judge};
 pub use verdict::Verdict;

@@ -1,8 +1,10 @@
-use crate::{Judge, Verdict, judge};
+use crate::{Judge, Verdict, explain, judge};
 use fx_block::Inequality;
 use fx_cert::{Cert, read_cert};
 use fx_code::{CodeTerm, Program, ProgramFault, Read};
+use fx_error::Parts;
 use fx_files::{Filter, read_filter};
+use fx_sweep::Place;
 use std::alloc::Global;
 use std::test::Fail;
 
@@ -13,6 +15,10 @@ const FEEDBACK: &str =
 // y(k) = u(k), over accumulators of 16 bits.
 const COPY: &str =
     "form = \"tf\"\nb = [\"1\"]\na = [\"1\"]\ninputs = [{ width = 16, bound = 1000 }]\noutputs = [{ width = 16, error = \"1\" }]\naccumulator = 16\n";
+
+// y(k) = u(k) + 1000 y(k-1).
+const GROWING: &str =
+    "form = \"tf\"\nb = [\"1\"]\na = [\"1\", \"-1000\"]\ninputs = [{ width = 16, bound = 100 }]\noutputs = [{ width = 16, error = \"3\" }]\naccumulator = 32\n";
 
 fn term(coef: i64, from: Read, left: u8) -> CodeTerm {
     CodeTerm { coef, from, left }
@@ -129,6 +135,44 @@ fn a_judge_serves_again(rt: HostRuntime) -> Result<(), Fail> {
         assert_eq!(rt; first, Verdict::Accepted);
         let second = judge.verdict(&filter, &program, &certificate);
         assert_eq!(rt; second, Verdict::Accepted);
+    }
+    Ok(())
+}
+
+#[test]
+fn an_error_has_its_parts(rt: HostRuntime) -> Result<(), Fail> {
+    let filter = read_filter(rt.alloc(), FEEDBACK.as_bytes())?;
+    let program = feedback(rt.alloc())?;
+    let certificate = certificate(&rt, 8, [201, 200], 47269781688880726016)?;
+    if program.is_whole() {
+        let report = explain(rt.alloc(), &filter, &program, &certificate)?;
+        assert_eq!(rt; report.verdict, Verdict::Accepted);
+        let first = report.parts.map(|parts| parts[0]);
+        let wanted = Parts {
+            rounding: 18374686479671623680,
+            difference: 0,
+            rest: 28895095209209102336,
+        };
+        assert_eq!(rt; first, Some(wanted));
+    }
+    Ok(())
+}
+
+#[test]
+fn a_sweep_past_its_limit_has_no_parts(rt: HostRuntime) -> Result<(), Fail> {
+    let filter = read_filter(rt.alloc(), GROWING.as_bytes())?;
+    let terms = [term(1000, Read::Old(0), 0), term(1, Read::In(0), 0)];
+    let program = one_row(rt.alloc(), 32, 0, &terms)?;
+    let certificate = certificate(&rt, 64, [1, 1], 0)?;
+    if program.is_whole() {
+        let report = explain(rt.alloc(), &filter, &program, &certificate)?;
+        let refused = Verdict::Refused {
+            which: Inequality::Sweep(0, Place::Rest(0)),
+            left: 18446744073709551616000000000,
+            right: 309485009821345068724781056,
+        };
+        assert_eq!(rt; report.verdict, refused);
+        assert!(rt; report.parts.is_none());
     }
     Ok(())
 }

@@ -1,4 +1,4 @@
-use Rattle.std.proofs.Common.{◌≡◌, ◌<◌, ◌∙◌, length, length-set, arith}
+use Rattle.std.proofs.Common.{◌<◌, ◌∙◌, length, length-set, arith}
 use Rattle.fx_check.specs.Targets.{length_at}
 use Rattle.fx_check.proofs.Places.{listed_more}
 use Rattle.fx_check.proofs.targets.lengths.Goals as goal

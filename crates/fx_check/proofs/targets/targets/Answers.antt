@@ -1,4 +1,4 @@
-use Rattle.std.proofs.Common.{◌≡◌, ◌<◌, ◌∙◌, length, length-set, arith}
+use Rattle.std.proofs.Common.{◌<◌, ◌∙◌, length, length-set, arith}
 use Rattle.fx_check.specs.Targets.{target_at}
 use Rattle.fx_check.proofs.Places.{listed_more}
 use Rattle.fx_check.proofs.targets.targets.Goals as goal

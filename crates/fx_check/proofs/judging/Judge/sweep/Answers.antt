@@ -1,7 +1,6 @@
-use Rattle.std.proofs.Common.{◌≡◌, ◌∙◌, ap, sym, subst, take, arith, rules, FitsSigned}
+use Rattle.std.proofs.Common.{◌≡◌, ◌∙◌, ap, subst, take, arith, rules, FitsSigned}
 use mir.Syntax.{w128}
 use Rattle.std.proofs.lemmas.Int.{to_z-of_z}
-use Rattle.std.specs.Prelude.{None, Some}
 use Rattle.fx_eqs.specs.Fits.{EquationsFit}
 use Rattle.fx_check.specs.Targets.{lengths_of, targets_of}
 use Rattle.fx_check.proofs.Sweeps.{can_be_filled, failure_of_range, range_told_of}

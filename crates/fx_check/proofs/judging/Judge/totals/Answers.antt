@@ -1,4 +1,4 @@
-use Rattle.std.proofs.Common.{◌≡◌, ◌<◌, ap₂, ◌∙◌, length, length-set, subst, arith, rules, FitsSigned}
+use Rattle.std.proofs.Common.{◌≡◌, ◌<◌, pos, ap₂, ◌∙◌, length, length-set, subst, arith, rules, FitsSigned}
 use mir.Syntax.{w128}
 use Rattle.std.proofs.lemmas.Int.{to_z-of_z}
 use Rattle.fx_eqs.specs.Fits.{EquationsFit}
@@ -40,7 +40,7 @@ loop-t-preserved g c =
     c.input_bounds-bounds.ensures.value c.row_bounds-x.ensures.value in
     rw (to_z-of_z w128 c.total.result fits) (record {
       long = length-set c.loop-t.totals c.loop-t.t c.total.result ∙ c.loop-t.invariant.long;
-      first = first_more c.loop-t.totals c.loop-t.t c.total.result (padded_total g.row.N f p cert) inside
+      first = first_more (pos 0) c.loop-t.totals c.loop-t.t c.total.result (padded_total g.row.N f p cert) inside
           c.loop-t.invariant.first here;
     })
 
