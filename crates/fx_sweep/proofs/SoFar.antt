@@ -201,7 +201,8 @@ module _ (now : List KeptAtLength) (l : ℕ) (new : KeptAtLength) (inside : l < 
       (k : ℕ) → k < l + 1 → P k (part_in (slice_set now l new) k)
   set_each P done here =
       each_before l (λ k. P k (part_in (slice_set now l new) k))
-      (λ k less. subst (P k) (sym (get_or-set_other now l k new nothing_kept (λ e. omega (arith, e, less)))) (done k less))
+      (λ k less. subst (P k) (sym (get_or-set_other now l k new nothing_kept (λ e. omega (arith, e, less))))
+      (done k less))
       (subst (P l) (sym (get_or-set_same now l new nothing_kept inside)) here)
 
   pub set_rest : (before : List KeptAtLength) → ((k : ℕ) → l ≤ k → part_in now k ≡ part_in before k) → (k : ℕ) →

@@ -76,8 +76,8 @@ still_wanted p = cond (is_none p.range) p.moments 0
 
 -- ---- what is filled
 
--- For each length a series holds the first of the targets that meets a range within it; and where none does, totals that
--- are filled with these targets and that length for each.
+-- For each length a series holds the first of the targets that meets a range within it; and where none does, totals
+-- that are filled with these targets and that length for each.
 pub record IsSeries (s : KeptSeries) (net : Net) (targets : List Target) (lengths : List ℕ) : Type 0 where
   pub count : s.count ≡ length lengths
   pub ranges : (l : ℕ) → l < length lengths →

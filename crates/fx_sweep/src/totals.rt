@@ -263,7 +263,8 @@ impl<const N: usize> Totals<N> {
         self.widths[place_in(t, N, i, N + PORTS)]
     }
 
-    /// The rest of row `i`, below N, for the target at place `t` of those that are filled, times 2^64. It is below 2^88.
+    /// The rest of row `i`, below N, for the target at place `t` of those that are filled, times 2^64. It is below
+    /// 2^88.
     pub fn rest(&self, t: usize, i: usize) -> i128
         requires target { t < self.now.filled }
         requires row { i < N }

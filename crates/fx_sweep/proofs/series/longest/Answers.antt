@@ -15,7 +15,12 @@ loop-l-preserved g c =
       covers = each_before c.loop-l.l
           (λ k. (part_in parts k).range ≡ None → (part_in parts k).moments ≤ c.greater-longest.result)
           (λ k less none. omega (arith, c.loop-l.invariant.covers k less none, c.greater-longest.ensures.first))
-          (λ none. omega (arith, wanted, wanted_when_open (part_in parts c.loop-l.l) none, c.greater-longest.ensures.second));
+          (λ none. omega (
+            arith,
+            wanted,
+            wanted_when_open (part_in parts c.loop-l.l) none,
+            c.greater-longest.ensures.second,
+          ));
       few = λ most bound. c.greater-longest.ensures.one most
           (c.loop-l.invariant.few most (λ k less. bound k (omega (arith, less))))
           (omega (
