@@ -5,6 +5,7 @@ mod caps;
 mod fail;
 mod joint;
 mod lengths;
+mod made;
 mod quantising;
 mod refusal;
 mod structure;
