@@ -1,15 +1,11 @@
 -- The formats of a filter are within the limits of quantising.
-use Rattle.std.proofs.Common.{◌≡◌, ℕ, zero, suc, ◌+◌, ◌<◌, ◌≤◌, List, [], ◌∷◌, ◌++◌, take, length, All, arith, refl}
-use Rattle.std.proofs.Common.{sym, ap, subst, ◌∙◌, unsigned_abs, slice_index_or, inl, inr}
-use Rattle.std.proofs.Math.IntN.{ℤ, pos, ◌-ℤ◌}
-use Rattle.std.specs.Int.Signed.{◌≤ℤ◌}
-use Rattle.std.proofs.lemmas.Bool.{cases_lt}
+use Rattle.std.proofs.Common.{◌≡◌, ℕ, zero, suc, ◌<◌, ◌≤◌, [], ◌∷◌, take, length, All, arith}
+use Rattle.std.proofs.Common.{unsigned_abs}
+use Rattle.std.proofs.Math.IntN.{ℤ, ◌-ℤ◌}
 use Rattle.std.proofs.lemmas.Int.{ints}
-use Rattle.std.proofs.lemmas.List.{get_or_past}
 use Rattle.std.proofs.lemmas.List.Elements.{All-nil, All-cons, All-get_or}
 use Rattle.fx_files.specs.Filter.{Filter}
 use Rattle.fx_files.specs.Fits.{FilterFits, OutputFits}
-use Rattle.fx_files.specs.declared.formats.OutputFormat.{OutputFormat}
 use Rattle.fx_block.specs.Formats.{output_at}
 use Rattle.fx_quant.specs.Quantised.{FormatsFit, LowFits}
 use Rattle.fx_quant.specs.declared.formats.Formats.{Formats}

@@ -2,6 +2,7 @@ mod AtRest
 mod FirstLength
 mod FormatsOf
 mod Listed
+mod MadeCertificates
 mod MadePrograms
 mod OfForm
 mod Outputs

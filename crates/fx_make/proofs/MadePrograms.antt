@@ -1,6 +1,6 @@
 -- The program of a candidate that passes.
-use Rattle.std.proofs.Common.{◌≡◌, ℕ, zero, suc, ◌+◌, ◌-◌, ◌^◌, ◌<◌, ◌≤◌, List, map, drop, length, All, min, arith, refl}
-use Rattle.std.proofs.Common.{sym, ap, subst, ◌∙◌, unsigned_abs, slice_index_or, inl, inr, cond}
+use Rattle.std.proofs.Common.{◌≡◌, ℕ, ◌+◌, ◌-◌, ◌^◌, ◌<◌, ◌≤◌, List, map, length, All, min, arith}
+use Rattle.std.proofs.Common.{sym, ap, subst, ◌∙◌, slice_index_or, inl, inr}
 use Rattle.std.proofs.Math.IntN.{ℤ, pos}
 use Rattle.std.specs.Int.Signed.{◌≤ℤ◌}
 use Rattle.std.proofs.lemmas.Bool.{cases_lt, cond-true, lt-ltb}
@@ -18,10 +18,9 @@ use Rattle.fx_files.specs.declared.formats.InputFormat.{InputFormat}
 use Rattle.fx_files.specs.declared.formats.OutputFormat.{OutputFormat}
 use Rattle.fx_code.specs.Code.{Code}
 use Rattle.fx_sweep.specs.Kept.{AreBounds, bound_in}
-use Rattle.fx_sweep.specs.Swept.{whole_in}
 use Rattle.fx_code.specs.NetRows.{bare_at}
 use Rattle.fx_block.specs.Candidate.{cap_of, inner_count, most_width}
-use Rattle.fx_block.specs.Formats.{input_at, output_at}
+use Rattle.fx_block.specs.Formats.{output_at}
 use Rattle.fx_block.specs.Made.{IsProgramOf}
 use Rattle.fx_quant.specs.Design.{Quantised, WidthsFit, HasShape, as_program}
 use Rattle.fx_quant.specs.Widths.{AreRowWidths}
@@ -133,7 +132,8 @@ program_of f d x widths p rows bounds are e shape =
       rows_are = shape.rows_are;
       accumulator = ap (λ (q : Code). q.accumulator) e;
       inputs = ap (λ (q : Code). length q.inputs) e ∙ length-map f.inputs (λ (i : InputFormat). i.width);
-      input_widths = λ j h. ap (λ (q : Code). slice_index_or q.inputs j 0) e ∙ get_or-map (λ (q : InputFormat). q.width) f.inputs j _ 0 h;
+      input_widths = λ j h. ap (λ (q : Code). slice_index_or q.inputs j 0) e
+          ∙ get_or-map (λ (q : InputFormat). q.width) f.inputs j _ 0 h;
       outputs = shape.output_count ∙ count;
       places = λ o h. shape.places o (omega (arith, h, count)) ∙ ap (λ m. m + o) inner;
       output_widths = λ o h. shape.row_widths (inner_count f d.rows + o) (omega (arith, h, rows.outputs))

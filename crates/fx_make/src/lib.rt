@@ -1,4 +1,5 @@
-//! Integer code for a filter: the structure that it asks for, as a filter in implicit form, and the search for a design.
+//! Integer code for a filter: the structure that it asks for, as a filter in implicit form, and the search for a
+//! design.
 #![tactic(auto)]
 
 mod caps;

@@ -3,14 +3,19 @@
 ghost use Rattle.std.specs.Prelude.{◌≡◌, ◌<◌, ◌≤◌, ℕ, length, map, All, IfOk};
 ghost use Rattle.fx_math.specs.Words.{WidthFits};
 ghost use Rattle.fx_code.specs.Code.{IsWhole};
-ghost use Rattle.fx_block.specs.Candidate.{cap_of};
-ghost use Rattle.fx_block.specs.Made.{IsProgramOf};
 ghost use Rattle.fx_sweep.specs.Kept.{AreBounds, bound_in};
-ghost use Rattle.fx_make.specs.Designs.{AreRowsOf};
+ghost use Rattle.fx_sweep.specs.Swept.{whole_in};
+ghost use Rattle.fx_block.specs.Candidate.{candidate_count, cap_of};
+ghost use Rattle.fx_block.specs.Made.{IsCertificateOf, IsProgramOf};
+ghost use Rattle.fx_make.specs.Designs.{AreRowsOf, ErrorFits};
+ghost use Rattle.fx_make.specs.Lengths.{HasPassing};
 
+use crate::targets::row_count;
+use fx_cert::{Cert, GREATEST_LENGTH, LEAST_LENGTH};
 use fx_code::Program;
 use fx_files::{Filter, InputFormat, OutputFormat, filters_fit};
 use fx_quant::Design;
+use fx_sweep::totals_grow;
 use std::alloc::{AllocError, Global};
 
 // The widths of the words of inputs.
@@ -52,4 +57,40 @@ pub fn made_program(alloc: Global, f: &Filter, d: &Design, x: &[i64]) -> Result<
     let outputs = output_widths(alloc, f.outputs())?;
     let widths = d.widths(alloc, x, &outputs)?;
     d.program(alloc, f.accumulator(), &inputs, &widths, outputs.len())
+}
+
+// Reads each wanted error, so that its limits are known.
+fn errors_are_small(outputs: &[OutputFormat])
+    ensures { All ErrorFits outputs.now }
+{
+    for output in outputs {
+        let _ = output.error.num();
+    }
+}
+
+/// The certificate of a design that passes after so many moments, 1 to 4096: with the bounds of its rows and of the
+/// filter's, and with the totals of the outputs' pairs.
+///
+/// Its error is want of memory.
+pub fn made_certificate(
+    alloc: Global,
+    f: &Filter,
+    d: &Design,
+    moments: u16,
+    x: &[i64],
+    e: &[i128],
+) -> Result<Cert, AllocError>
+    requires rows { AreRowsOf f.now d.now }
+    requires low { LEAST_LENGTH ≤ moments }
+    requires high { moments ≤ GREATEST_LENGTH }
+    requires count { candidate_count f.now d.now.rows ≤ length x.now }
+    requires bounds { AreBounds x.now }
+    requires errors { length e.now ≡ length f.now.outputs }
+    requires passing { HasPassing f.now d.now.rows moments (bound_in x.now) (whole_in e.now) }
+    ensures { IfOk result (IsCertificateOf f.now d.now.rows moments (bound_in x.now)) }
+{
+    filters_fit(f);
+    totals_grow();
+    errors_are_small(f.outputs());
+    Cert::build(alloc, moments, &x[..row_count(f, d)], e)
 }

@@ -96,5 +96,6 @@ returns-clause-whole c =
     let count : c.len.result ≡ length c.args.f.now.outputs =
     c.len.ensures ∙ sym c.deref.ensures.len ∙ ap length outs
     ∙ length-map c.args.f.now.outputs (λ (o : OutputFormat). o.width) in
-    on_value c.program.result _ _ IsWhole (λ p some again. some (omega (arith, count, c.filters_fit.ensures.outputs_low)))
+    on_value c.program.result _ _ IsWhole
+    (λ p some again. some (omega (arith, count, c.filters_fit.ensures.outputs_low)))
     c.program.ensures.whole c.program.ensures.whole
