@@ -1,3 +1,4 @@
 pub mod Designs
+pub mod Laws
 pub mod Peaks
 pub mod Structures

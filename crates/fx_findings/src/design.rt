@@ -9,6 +9,7 @@ ghost use Rattle.fx_findings.specs.Designs.{
   failed_line,
   no_design_lines,
 };
+ghost use Rattle.fx_findings.specs.Laws.{DesignLines, NoDesignLines};
 
 use crate::peaks::put_range;
 use fx_cert::Cert;
@@ -124,3 +125,10 @@ pub fn no_design_lines(alloc: Global, fails: &[Failed]) -> Result<Vec<u8>, Alloc
     }
     Ok(text)
 }
+
+/// A law with nothing to run: a design is told in one line and one more for each output, that there is none in one line
+/// and one more for each candidate, with no control byte before a line feed.
+pub fn designs_are_lines()
+    ensures found { DesignLines }
+    ensures failed { NoDesignLines }
+{}

@@ -8,6 +8,6 @@ mod structure;
 #[cfg(test)]
 mod tests;
 
-pub use design::{design_lines, no_design_lines};
-pub use peaks::{put_length, put_peak};
-pub use structure::structure_fault_line;
+pub use design::{design_lines, designs_are_lines, no_design_lines};
+pub use peaks::{gains_are_lines, put_length, put_peak};
+pub use structure::{structure_fault_line, structure_faults_are_one_line};

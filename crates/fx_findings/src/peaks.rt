@@ -10,6 +10,7 @@ ghost use Rattle.fx_findings.specs.Peaks.{
   words_text,
   worst_line,
 };
+ghost use Rattle.fx_findings.specs.Laws.{LengthLine, PeakLines};
 
 use fx_block::{Least, LengthWhy};
 use fx_decimal::print_down;
@@ -124,3 +125,10 @@ pub fn put_length(
         }
     }
 }
+
+/// A law with nothing to run: a gain and its words are two lines, a length that does not do is one, with no control byte
+/// before a line feed.
+pub fn gains_are_lines()
+    ensures gain { PeakLines }
+    ensures length { LengthLine }
+{}

@@ -3,6 +3,7 @@
 ghost use Rattle.std.specs.Prelude.{◌≡◌, ◌++◌, codes, IfOk};
 ghost use Rattle.fx_make.specs.declared.refusal.StructureFault.TheVariants.{NotBelowOne, NotListed, Order};
 ghost use Rattle.fx_findings.specs.Structures.{structure_fault_line};
+ghost use Rattle.fx_findings.specs.Laws.{StructureFaultLine};
 
 use fx_files::{Form, Structure};
 use fx_lines::{put_field, put_up, put_word};
@@ -70,3 +71,9 @@ pub fn structure_fault_line(alloc: Global, fault: &StructureFault) -> Result<Vec
         StructureFault::NoMemory => Ok(Vec::new(alloc)),
     }
 }
+
+/// A law with nothing to run: whatever is wrong with a structure, one line tells it, with no control byte before its
+/// line feed.
+pub fn structure_faults_are_one_line()
+    ensures { StructureFaultLine }
+{}

@@ -7,7 +7,8 @@ use Rattle.std.proofs.lemmas.Bool.{cond_both, le-ltb, ne_eqb}
 use Rattle.std.proofs.lemmas.List.Folds.{list_all-append}
 use Rattle.std.specs.Fmt.{digit_glyph, digits, digits_onto, signed_decimal}
 use Rattle.std.specs.List.{list_all}
-use Rattle.fx_decimal.specs.Printed.{padded, places_text, written, up_text, down_text}
+use Rattle.fx_decimal.specs.Printed.{fraction_text, padded, places_text, written, up_text, down_text}
+use Rattle.fx_nums.specs.Fraction.{Fraction}
 use Rattle.fx_nums.specs.Signs.{digit_zero, minus_text}
 use Rattle.fx_lines.specs.Laws.{is_printed, IsLine}
 use Rattle.fx_lines.specs.Verdict.{sides_line, up_part}
@@ -75,6 +76,10 @@ written_printed negative whole rest k =
     both_printed (minus_text negative) (decimal whole ++ places_text k rest) (minus_printed negative)
     (both_printed (decimal whole) (places_text k rest) (decimal_printed whole) (places_printed k rest))
 
+pub fraction_printed : (c : Fraction) → Printed (fraction_text c)
+unfolding fraction_text
+fraction_printed c = written_printed _ _ _ _
+
 pub up_printed : (v : ℤ) (k : ℕ) → Printed (up_text v k)
 unfolding up_text
 up_printed v k = written_printed _ _ _ k
@@ -95,7 +100,16 @@ line_of front printed = record { front = front; ends = refl; printed = printed }
 pub more : (front part : List ℕ) → Printed front → Printed part → Printed (front ++ codes " " ++ part)
 more front part first second = both_printed (front ++ codes " ") part (both_printed front (codes " ") first refl) second
 
--- ---- words, and one number or three behind them
+-- ---- words, and one number, two or three behind them
+
+pub numbered : (words : List ℕ) (n : ℕ) → Printed words → Printed (words ++ decimal n)
+numbered words n printed = both_printed words (decimal n) printed (decimal_printed n)
+
+pub numbers_line : (words part other : List ℕ) → Printed words → Printed part → Printed other →
+    IsLine (words ++ part ++ codes " " ++ other ++ codes "\n")
+numbers_line words part other printed first second =
+    line_of (words ++ part ++ codes " " ++ other)
+    (more (words ++ part) other (both_printed words part printed first) second)
 
 pub number_line : (words part : List ℕ) → Printed words → Printed part → IsLine (words ++ part ++ codes "\n")
 number_line words part printed first = line_of (words ++ part) (both_printed words part printed first)

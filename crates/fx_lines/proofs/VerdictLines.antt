@@ -11,7 +11,7 @@ use Rattle.fx_lines.specs.Laws.{AcceptedLines, AreLines, CertFaultLine, IsLine, 
 use Rattle.fx_block.specs.Failure.{Failure}
 use Rattle.fx_lines.specs.Verdict.{error_line, error_lines, inequality_text, place_text, up_part}
 use Rattle.fx_lines.proofs.PrintedParts.{Printed, both_printed, decimal_printed, part_printed, sides_are_line}
-use Rattle.fx_lines.proofs.PrintedParts.{line_of, more, number_line, three_line}
+use Rattle.fx_lines.proofs.PrintedParts.{line_of, more, number_line, numbered, three_line}
 
 -- ---- faults of certificates
 
@@ -27,11 +27,7 @@ cert_line NoMemory there = absurd (there refl)
 
 -- ---- refused
 
--- words and a number
-numbered : (words : List ℕ) (n : ℕ) → Printed words → Printed (words ++ decimal n)
-numbered words n printed = both_printed words (decimal n) printed (decimal_printed n)
-
-place_printed : (place : Place) → Printed (place_text place)
+pub place_printed : (place : Place) → Printed (place_text place)
 place_printed (Weight i) = numbered (codes "weight ") i refl
 place_printed (Gain i) = numbered (codes "gain ") i refl
 place_printed (Input j) = numbered (codes "input ") j refl
@@ -71,7 +67,7 @@ error_is_line o e =
     (both_printed (codes "error " ++ decimal o) (up_part (codes " ") e) (numbered (codes "error ") o refl)
     (part_printed (codes " ") e refl))
 
-errors_are_lines : (o : ℕ) (errors : List ℤ) → AreLines (length errors) (error_lines o errors)
+pub errors_are_lines : (o : ℕ) (errors : List ℤ) → AreLines (length errors) (error_lines o errors)
 errors_are_lines o [] = refl
 errors_are_lines o (e ∷ es) =
     (error_line o e, (error_lines (o + 1) es, (refl, (error_is_line o e, errors_are_lines (o + 1) es))))

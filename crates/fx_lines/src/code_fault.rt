@@ -3,6 +3,7 @@
 ghost use Rattle.std.specs.Prelude.{◌≡◌, ◌++◌, codes, IfOk};
 ghost use Rattle.fx_text.specs.declared.fault.CodeFault.TheVariants.{Limit, Rounding};
 ghost use Rattle.fx_lines.specs.CodeFault.{code_fault_line, limit_name};
+ghost use Rattle.fx_lines.specs.Laws.{CodeFaultLine};
 
 use crate::pieces::{put_field, put_word};
 use fx_code::LimitOf;
@@ -78,3 +79,8 @@ pub fn code_fault_line(alloc: Global, fault: &CodeFault) -> Result<Vec<u8>, Allo
         CodeFault::NoMemory => Ok(Vec::new(alloc)),
     }
 }
+
+/// A law with nothing to run: whatever is wrong in code, one line tells it, with no control byte before its line feed.
+pub fn code_faults_are_one_line()
+    ensures { CodeFaultLine }
+{}

@@ -16,6 +16,7 @@ ghost use Rattle.fx_lines.specs.Report.{
   row_line,
   row_lines,
 };
+ghost use Rattle.fx_lines.specs.Laws.{ReportLines};
 
 use crate::decimals::put_up;
 use crate::pieces::{put_field, put_word};
@@ -168,3 +169,9 @@ pub fn report_lines(
     put_outputs(&mut text, filter, parts)?;
     Ok(text)
 }
+
+/// A law with nothing to run: a report has a line for each row of the program and each output, with no control byte
+/// before a line feed.
+pub fn reports_are_lines()
+    ensures { ReportLines }
+{}

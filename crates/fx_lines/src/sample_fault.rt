@@ -3,6 +3,7 @@
 ghost use Rattle.std.specs.Prelude.{◌≡◌, IfOk};
 ghost use Rattle.fx_sim.specs.declared.fault.SampleFault.TheVariants.{Columns, Field, OutOfWord};
 ghost use Rattle.fx_lines.specs.SampleFault.{sample_fault_line};
+ghost use Rattle.fx_lines.specs.Laws.{SampleFaultLine};
 
 use crate::pieces::{put_field, put_word};
 use fx_sim::SampleFault;
@@ -54,3 +55,9 @@ pub fn sample_fault_line(alloc: Global, fault: &SampleFault) -> Result<Vec<u8>, 
         SampleFault::NoMemory => Ok(Vec::new(alloc)),
     }
 }
+
+/// A law with nothing to run: whatever is wrong in samples, one line tells it, with no control byte before its line
+/// feed.
+pub fn sample_faults_are_one_line()
+    ensures { SampleFaultLine }
+{}
