@@ -1,6 +1,6 @@
 -- Three files that pass are accepted.
-use Rattle.std.proofs.Common.{◌≡◌, ◌∙◌, ℕ, ℤ, ◌≤◌, nat_le, cond, List, [], ◌∷◌, length, Option, Some, None, Result, Ok}
-use Rattle.std.proofs.Common.{refl, sym, ap}
+use Rattle.std.proofs.Common.{◌≡◌, ◌∙◌, ℕ, ◌≤◌, cond, List, [], ◌∷◌, length, Option, Some, None}
+use Rattle.std.proofs.Common.{ap}
 use Rattle.std.proofs.lemmas.Bool.{le-leb}
 use Rattle.std.specs.FinMap.{get}
 use Rattle.fx_io.specs.Shelf.{Files}
@@ -17,13 +17,13 @@ use Rattle.fx_cert.specs.Reading.{certificate_in}
 use Rattle.fx_block.specs.Certified.{NoneFails}
 use Rattle.fx_block.specs.Failure.{first_failure}
 use Rattle.fx_lines.specs.Verdict.{accepted_lines}
-use Rattle.fx_tool.specs.Accepting.{HasBytes, Pass, PassingFilesAreAccepted}
-use Rattle.fx_tool.specs.Answer.{Answer, absent, says}
-use Rattle.fx_tool.specs.Check.{by_failure, judged, certified, code_plan, filter_plan, check_plan}
+use Rattle.fx_tool.specs.Accepting.{PassingFilesAreAccepted}
+use Rattle.fx_tool.specs.Answer.{absent, says}
+use Rattle.fx_tool.specs.Check.{by_failure, judged, certified, code_plan, filter_plan}
 use Rattle.fx_tool.specs.Command.{Command}
 use Rattle.fx_tool.specs.Operand.{limit_of, too_long}
 use Rattle.fx_tool.specs.Plan.{Plan, Ends, Reads, by_content, answer_by}
-use Rattle.fx_tool.specs.Running.{answer_of, names_to, operands_to, plan_to}
+use Rattle.fx_tool.specs.Running.{names_to, operands_to, plan_to}
 use Rattle.fx_tool.specs.declared.operand.Operand.{Operand}
 use Rattle.fx_tool.specs.declared.operand.Operand.TheVariants as operand
 use Rattle.fx_tool.specs.declared.status.Status.TheVariants.{Done}

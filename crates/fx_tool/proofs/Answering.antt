@@ -21,14 +21,14 @@ use Rattle.fx_text.specs.declared.fault.CodeFault.{CodeFault}
 use Rattle.fx_sim.specs.Simulation.{simulation}
 use Rattle.fx_sim.specs.declared.fault.SampleFault.{SampleFault}
 use Rattle.fx_tool.specs.Answer.{Answer, absent, Delivers}
-use Rattle.fx_tool.specs.Check.{by_failure, judged, certified, code_plan, filter_plan, check_plan}
+use Rattle.fx_tool.specs.Check.{by_failure, judged, certified, code_plan, filter_plan}
 use Rattle.fx_tool.specs.Command.{Command, command_of}
 use Rattle.fx_tool.specs.Operand.{limit_of, too_long}
-use Rattle.fx_tool.specs.Plan.{Plan, Ends, Reads, by_content, when_short, answer_by, OfAnswer}
+use Rattle.fx_tool.specs.Plan.{Plan, Ends, Reads, by_content, answer_by, OfAnswer}
 use Rattle.fx_tool.specs.Running.{plan_of, operands_to, names_to, plan_to, answer_of, with_placed, FollowsWords}
 use Rattle.fx_tool.specs.Running.{Leaves, OfWords, PlacesAnswer}
-use Rattle.fx_tool.specs.Show.{shown, show_plan}
-use Rattle.fx_tool.specs.Simulate.{outputs, samples_plan, simulate_plan}
+use Rattle.fx_tool.specs.Show.{shown}
+use Rattle.fx_tool.specs.Simulate.{outputs, samples_plan}
 use Rattle.fx_tool.specs.Status.{is_spoken}
 use Rattle.fx_tool.specs.Writing.{GrowsBy}
 use Rattle.fx_tool.specs.declared.command.Verb.{Verb}

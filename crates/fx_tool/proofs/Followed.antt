@@ -1,17 +1,16 @@
 -- What follows a plan behind the first file, follows the plan from that file on.
-use Rattle.std.proofs.Common.{◌≡◌, ◌⊎◌, inl, inr, ◌∙◌, ℕ, ◌+◌, ◌≤◌, nat_le, cond, List, [], ◌∷◌, length}
-use Rattle.std.proofs.Common.{Option, Some, None, IsSomeAnd, Result, Ok, Err, IfOk, refl, sym, ap, subst, arith, min}
+use Rattle.std.proofs.Common.{◌≡◌, inl, inr, ◌∙◌, ℕ, ◌+◌, ◌≤◌, cond, List, ◌∷◌, length}
+use Rattle.std.proofs.Common.{Option, Some, None, IsSomeAnd, Result, Ok, Err, IfOk, refl, sym, ap, subst, arith}
 use Rattle.std.specs.FinMap.{get}
 use Rattle.fx_io.specs.Causes.{HasCause}
 use Rattle.fx_io.specs.Outside.{Outside, OnlyReads}
-use Rattle.fx_io.specs.Shelf.{Files, KeepsNames}
+use Rattle.fx_io.specs.Shelf.{Files}
 use Rattle.fx_io.specs.declared.shelf.IoFault.{IoFault}
-use Rattle.fx_io.specs.declared.shelf.IoFault.TheVariants.{Failed}
 use Rattle.fx_tool.specs.Answer.{Answer, absent}
 use Rattle.fx_tool.specs.Operand.{limit_of, too_long}
 use Rattle.fx_tool.specs.Plan.{Plan, Ends, Reads, by_content, answer_by, calls_by, most_calls, plan_calls, OfAnswer}
 use Rattle.fx_tool.specs.Plan.{Follows}
-use Rattle.fx_tool.specs.Reading.{Has, HoldsContent, content_calls, read_calls}
+use Rattle.fx_tool.specs.Reading.{Has, HoldsContent, read_calls}
 use Rattle.fx_tool.specs.declared.operand.Operand.{Operand}
 use Rattle.std.proofs.lemmas.Bool.{le-leb}
 

@@ -29,7 +29,7 @@ use Rattle.fx_tool.specs.Check.{by_failure, judged, certified, code_plan, filter
 use Rattle.fx_tool.specs.Check.{CertificateIsSound, CodeIsSound, FilterIsSound, FilesAreSound}
 use Rattle.fx_tool.specs.Command.{Command, command_of, operands_of}
 use Rattle.fx_tool.specs.Operand.{limit_of, too_long}
-use Rattle.fx_tool.specs.Plan.{Plan, Ends, Reads, by_content, answer_by, OfAnswer, WhereTold}
+use Rattle.fx_tool.specs.Plan.{Plan, Ends, Reads, by_content, answer_by, OfAnswer}
 use Rattle.fx_tool.specs.Running.{plan_of, operands_to, names_to, plan_to, OfWords, Claims, DoneClaims}
 use Rattle.fx_tool.specs.Running.{Establishes, EstablishesTo, EstablishesWords}
 use Rattle.fx_tool.specs.Show.{shown, Shows}
@@ -40,7 +40,7 @@ use Rattle.fx_tool.specs.declared.command.Verb.TheVariants.{Check, Show, Simulat
 use Rattle.fx_tool.specs.declared.operand.Operand.{Operand}
 use Rattle.fx_tool.specs.declared.operand.Operand.TheVariants as operand
 use Rattle.fx_tool.specs.declared.status.Status.{Status}
-use Rattle.fx_tool.specs.declared.status.Status.TheVariants.{Done, Usage, ReadFault}
+use Rattle.fx_tool.specs.declared.status.Status.TheVariants.{Done, Usage}
 
 -- ---- where the answer is 0, the first file is there and not too long
 

@@ -1,5 +1,5 @@
 -- The files that commands read.
-use Rattle.std.specs.Prelude.{ℕ, List, codes}
+use Rattle.std.specs.Prelude.{ℕ, codes}
 use Rattle.fx_tool.specs.Answer.{Answer, says}
 use Rattle.fx_tool.specs.declared.operand.Operand.{Operand}
 use Rattle.fx_tool.specs.declared.operand.Operand.TheVariants.{Filter, Code, Certificate, Samples}

@@ -1,5 +1,5 @@
 -- Of `show`: its plan, and what status 0 claims.
-use Rattle.std.specs.Prelude.{◌≡◌, ℕ, List, Option, Result, Ok, Err, IsSomeAnd}
+use Rattle.std.specs.Prelude.{ℕ, List, Option, Result, Ok, Err, IsSomeAnd}
 use Rattle.std.specs.FinMap.{get}
 use Rattle.fx_io.specs.Shelf.{Files}
 use Rattle.fx_files.specs.Describes.{IsFileOf}
