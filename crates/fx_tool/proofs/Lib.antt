@@ -1,5 +1,5 @@
-pub mod Accepting
 pub mod Answering
+pub mod CheckCauses
 pub mod Followed
 pub mod Headline
 pub mod ReadSoFar

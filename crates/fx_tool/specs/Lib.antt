@@ -1,6 +1,6 @@
-pub mod Accepting
 pub mod Answer
 pub mod Check
+pub mod CheckCauses
 pub mod Command
 pub mod Ending
 pub mod Operand

@@ -18,7 +18,7 @@ mod writing;
 pub use command::{Command, VERBS, Verb, command_of};
 pub use operand::{LONGEST_FILE, LONGEST_SAMPLES, Operand};
 use reading::PIECE;
-pub use running::{passing_files_are_accepted, run};
+pub use running::{check_ends_by_its_files, run};
 pub use status::{NO_WORDS, Status};
 
 /// The limits of the files, and of one read, in bytes.

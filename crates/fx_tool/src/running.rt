@@ -1,9 +1,15 @@
 //! A run of a command line.
 ghost use Rattle.std.specs.Prelude.{◌≡◌, length};
+ghost use Rattle.fx_tool.specs.Answer.{WhereDone};
+ghost use Rattle.fx_tool.specs.CheckCauses.{
+  BadCertificateExactly,
+  BadCodeExactly,
+  BadFilterExactly,
+  PassingIsAccepted,
+  RefusedExactly,
+};
 ghost use Rattle.fx_tool.specs.Command.{operands_of, texts};
 ghost use Rattle.fx_tool.specs.Plan.{Follows, MayRead};
-ghost use Rattle.fx_tool.specs.Accepting.{PassingFilesAreAccepted};
-ghost use Rattle.fx_tool.specs.Answer.{WhereDone};
 ghost use Rattle.fx_tool.specs.Running.{
   plan_of,
   CanRead,
@@ -98,11 +104,16 @@ pub fn run<S: Shelf, K: Sink>(alloc: Global, words: &[String], shelf: &mut S, ou
     answer(alloc, words, shelf, out)
 }
 
-/// A law with nothing to run: where the words are `check` and the names of three files, of at most `LONGEST_FILE` bytes
-/// each, that are a filter's, the code of a program and the text of a certificate which meets all inequalities, the
-/// answer is `Done` with the lines of the certificate's errors.
-pub fn passing_files_are_accepted()
-    ensures { PassingFilesAreAccepted }
+/// A law with nothing to run: when `check` ends with which status, where the files before are there and have at most
+/// `LONGEST_FILE` bytes. 3 comes exactly where the first file is that of no filter, 4 exactly where the second spells no
+/// program, 5 exactly where the third is the text of no certificate, 1 exactly where an inequality fails, and where all
+/// hold, 0 with the lines of the certificate's errors.
+pub fn check_ends_by_its_files()
+    ensures bad_filter { BadFilterExactly }
+    ensures bad_code { BadCodeExactly }
+    ensures bad_certificate { BadCertificateExactly }
+    ensures refused { RefusedExactly }
+    ensures accepted { PassingIsAccepted }
 {
     certificate_is_read_exactly();
     none_fails_where_all_hold();
