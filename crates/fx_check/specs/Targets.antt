@@ -7,6 +7,8 @@ use Rattle.fx_net.specs.Net.{Net}
 use Rattle.fx_code.specs.Code.{Code}
 use Rattle.fx_code.specs.Joint.{joint_net}
 use Rattle.fx_cert.specs.Certificate.{Certificate, output_length, row_length}
+use Rattle.fx_sweep.specs.Filled.{Filled}
+use Rattle.fx_sweep.specs.Kept.{Kept}
 use Rattle.fx_sweep.specs.Swept.{whole_in}
 use Rattle.fx_sweep.specs.declared.target.Target.{Target}
 use Rattle.fx_sweep.specs.declared.target.Target.TheVariants.{Row}
@@ -40,3 +42,13 @@ padded_net n filter p = joint_net n p filter.equations
 pub record HasTotals (filter : Filter) (p : Code) (c : Certificate) (totals : List ℤ) : Type 0 where
   pub rows : (j : ℕ) → j < row_count filter p → whole_in totals j ≡ row_total filter p c j
   pub pairs : (o : ℕ) → o < length filter.outputs → whole_in totals (row_count filter p + o) ≡ pair_total filter p c o
+
+-- a program has as many outputs as the filter, and a certificate a bound for each row and an error for each output
+pub record AreCounted (filter : Filter) (p : Code) (c : Certificate) : Type 0 where
+  pub outputs : length p.outputs ≡ length filter.outputs
+  pub rows : length c.bounds ≡ row_count filter p
+  pub errors : length c.errors ≡ length filter.outputs
+
+-- in a net of n rows all targets are filled
+abbrev pub AreFilled : ℕ → Filter → Code → Certificate → Kept → Type 0
+AreFilled n filter p c kept = Filled kept (padded_net n filter p) (targets_of filter p) (lengths_of filter p c)

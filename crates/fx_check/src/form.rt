@@ -5,6 +5,7 @@ ghost use Rattle.fx_block.specs.Failure.{first_of, form_failure, unequal};
 ghost use Rattle.fx_block.specs.Formats.{input_at, output_at};
 ghost use Rattle.fx_block.specs.Passes.{row_count};
 ghost use Rattle.fx_block.specs.declared.inequality.Inequality.TheVariants.{InputWidth, OutputWidth};
+ghost use Rattle.fx_check.specs.Targets.{AreCounted};
 ghost use Rattle.fx_check.specs.Verdict.{told_by};
 ghost use Rattle.fx_code.specs.Code.{row_at};
 ghost use Rattle.fx_files.specs.Fits.{InputFits, OutputFits};
@@ -126,9 +127,7 @@ fn test_outputs(f: &Filter, p: &Program) -> Result<(), Refusal>
 /// All numbers of the form.
 pub fn test_form(f: &Filter, p: &Program, c: &Cert) -> Result<(), Refusal>
     ensures told { told_by result ≡ form_failure f.now p.now c.now }
-    ensures outputs { OnOk result (length p.now.outputs ≡ length f.now.outputs) }
-    ensures rows { OnOk result (length c.now.bounds ≡ row_count f.now p.now) }
-    ensures errors { OnOk result (length c.now.errors ≡ length f.now.outputs) }
+    ensures counted { OnOk result (AreCounted f.now p.now c.now) }
 {
     equal(Inequality::Inputs, p.inputs(), input_count(f))?;
     equal(Inequality::Outputs, p.outputs().len(), output_count(f))?;

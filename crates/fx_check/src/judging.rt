@@ -4,12 +4,11 @@ ghost use Rattle.std.specs.Prelude.{◌≡◌, ◌+◌, ◌^◌, ◌<◌, ◌≤
 ghost use Rattle.std.specs.Option.{option_or};
 ghost use Rattle.fx_block.specs.Failure.{first_failure, form_failure, range_failure};
 ghost use Rattle.fx_block.specs.Passes.{row_count};
-ghost use Rattle.fx_check.specs.Targets.{HasTotals, lengths_of, padded_net, target_count, targets_of};
+ghost use Rattle.fx_check.specs.Targets.{AreCounted, AreFilled, HasTotals, padded_net};
 ghost use Rattle.fx_check.specs.Report.{IsReportOf, parts_of};
 ghost use Rattle.fx_check.specs.Verdict.{compared_failure, failure_in, failure_of, told_by};
 ghost use Rattle.fx_code.specs.Code.{IsWhole};
 ghost use Rattle.fx_net.specs.Tables.{net_of};
-ghost use Rattle.fx_sweep.specs.Filled.{Filled};
 
 use crate::bounds::{test_bounds, test_errors, test_sums, test_wanted_errors, test_words};
 use crate::form::{joint_rows, output_count, test_form};
@@ -73,12 +72,9 @@ impl<const N: usize> Judge<N> {
     fn sweep(&mut self, f: &Filter, p: &Program, c: &Cert) -> Result<(), Refusal>
         requires whole { IsWhole p.now }
         requires room { row_count f.now p.now ≤ N }
-        requires outputs { length p.now.outputs ≡ length f.now.outputs }
-        requires rows { length c.now.bounds ≡ row_count f.now p.now }
-        requires errors { length c.now.errors ≡ length f.now.outputs }
+        requires counted { AreCounted f.now p.now c.now }
         ensures told { told_by result ≡ range_failure f.now p.now c.now }
-        ensures filled { OnOk result (Filled self.new.totals (padded_net N f.now p.now) (targets_of f.now p.now)
-            (lengths_of f.now p.now c.now)) }
+        ensures filled { OnOk result (AreFilled N f.now p.now c.now self.new.totals) }
     {
         filters_fit(f);
         systems_fit(f.eqs());
@@ -108,10 +104,8 @@ impl<const N: usize> Judge<N> {
     fn totals(&self, f: &Filter, p: &Program, c: &Cert) -> [i128; MOST_TARGETS]
         requires whole { IsWhole p.now }
         requires room { row_count f.now p.now ≤ N }
-        requires outputs { length p.now.outputs ≡ length f.now.outputs }
-        requires rows { length c.now.bounds ≡ row_count f.now p.now }
-        requires filled { Filled self.now.totals (padded_net N f.now p.now) (targets_of f.now p.now)
-            (lengths_of f.now p.now c.now) }
+        requires counted { AreCounted f.now p.now c.now }
+        requires filled { AreFilled N f.now p.now c.now self.now.totals }
         ensures { HasTotals f.now p.now c.now result }
     {
         filters_fit(f);
@@ -132,11 +126,8 @@ impl<const N: usize> Judge<N> {
     fn compare(&self, f: &Filter, p: &Program, c: &Cert) -> Result<(), Refusal>
         requires whole { IsWhole p.now }
         requires room { row_count f.now p.now ≤ N }
-        requires outputs { length p.now.outputs ≡ length f.now.outputs }
-        requires rows { length c.now.bounds ≡ row_count f.now p.now }
-        requires errors { length c.now.errors ≡ length f.now.outputs }
-        requires filled { Filled self.now.totals (padded_net N f.now p.now) (targets_of f.now p.now)
-            (lengths_of f.now p.now c.now) }
+        requires counted { AreCounted f.now p.now c.now }
+        requires filled { AreFilled N f.now p.now c.now self.now.totals }
         ensures { told_by result ≡ compared_failure f.now p.now c.now }
     {
         let totals = self.totals(f, p, c);
@@ -173,10 +164,8 @@ impl<const N: usize> Judge<N> {
     fn parts(&self, f: &Filter, p: &Program, c: &Cert) -> [Parts; PORTS]
         requires whole { IsWhole p.now }
         requires room { row_count f.now p.now ≤ N }
-        requires outputs { length p.now.outputs ≡ length f.now.outputs }
-        requires rows { length c.now.bounds ≡ row_count f.now p.now }
-        requires filled { Filled self.now.totals (padded_net N f.now p.now) (targets_of f.now p.now)
-            (lengths_of f.now p.now c.now) }
+        requires counted { AreCounted f.now p.now c.now }
+        requires filled { AreFilled N f.now p.now c.now self.now.totals }
         ensures { result ≡ parts_of f.now p.now c.now }
     {
         filters_fit(f);

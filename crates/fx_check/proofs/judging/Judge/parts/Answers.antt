@@ -33,8 +33,8 @@ loop-o-preserved g c =
     let parts = c.split.ensures.parts (padded_net g.row.N f p) (targets_of f p) (lengths_of f p cert)
     c.requires.filled in
     let here : c.split.result ≡ parts_at f p cert c.loop-o.o =
-    parts_told f p cert c.filters_fit.ensures system c.programs_fit.ensures c.requires.outputs g.row.N
-    c.requires.room c.empty_rows_change_nothing.ensures c.requires.whole c.requires.rows c.loop-o.o output
+    parts_told f p cert c.filters_fit.ensures system c.programs_fit.ensures c.requires.counted.outputs g.row.N
+    c.requires.room c.empty_rows_change_nothing.ensures c.requires.whole c.requires.counted.rows c.loop-o.o output
     c.split.result (rw (
       c.joint_rows-rows.ensures.value,
       c.input_bounds-bounds.ensures.value,

@@ -10,7 +10,7 @@ pub fill-requires : goal.fill-requires
 fill-requires g c =
     let system : EquationsFit c.args.f.now.equations = subst EquationsFit c.eqs.ensures.value c.systems_fit.ensures in
     let can = can_be_filled c.args.f.now c.args.p.now c.args.c.now c.filters_fit.ensures system
-    c.programs_fit.ensures c.requires.outputs g.row.N c.requires.room c.certificates_fit.ensures in (
+    c.programs_fit.ensures c.requires.counted.outputs g.row.N c.requires.room c.certificates_fit.ensures in (
       omega arith,
       (
         omega arith,
@@ -31,7 +31,7 @@ returns-in-Ok-clause-told g c =
     rw c.target_count-count.ensures.value c.lengths-lengths.ensures in
     ap failure_of_range c.in-Ok.ensures.range
     ∙ range_told_of c.args.f.now c.args.p.now c.args.c.now c.filters_fit.ensures system c.programs_fit.ensures
-    c.requires.outputs g.row.N c.requires.room c.empty_rows_change_nothing.ensures c.requires.whole _ _ _
+    c.requires.counted.outputs g.row.N c.requires.room c.empty_rows_change_nothing.ensures c.requires.whole _ _ _
     c.put_joint.ensures targets lengths
 
 pub returns-in-Err-clause-told : goal.returns-in-Err-clause-told
@@ -46,5 +46,5 @@ returns-in-Err-clause-told g c =
     rw (to_z-of_z w128 c.in-Err.range.at.value fits)
     (ap failure_of_range c.in-Err.ensures.range
     ∙ range_told_of c.args.f.now c.args.p.now c.args.c.now c.filters_fit.ensures system c.programs_fit.ensures
-    c.requires.outputs g.row.N c.requires.room c.empty_rows_change_nothing.ensures c.requires.whole _ _ _
+    c.requires.counted.outputs g.row.N c.requires.room c.empty_rows_change_nothing.ensures c.requires.whole _ _ _
     c.put_joint.ensures targets lengths)
