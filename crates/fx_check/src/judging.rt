@@ -1,6 +1,6 @@
 //! The judgement: form, sweeps, and what the sweeps are compared with.
 
-ghost use Rattle.std.specs.Prelude.{◌≡◌, ◌+◌, ◌^◌, ◌<◌, ◌≤◌, OnOk, length, Some, None};
+ghost use Rattle.std.specs.Prelude.{◌≡◌, ◌+◌, ◌^◌, ◌<◌, ◌≤◌, All, IfSome, OnOk, length, Some, None};
 ghost use Rattle.std.specs.Option.{option_or};
 ghost use Rattle.fx_block.specs.Failure.{first_failure, form_failure, range_failure};
 ghost use Rattle.fx_block.specs.Passes.{row_count};
@@ -8,6 +8,7 @@ ghost use Rattle.fx_check.specs.Targets.{AreCounted, AreFilled, HasTotals, padde
 ghost use Rattle.fx_check.specs.Report.{IsReportOf, parts_of};
 ghost use Rattle.fx_check.specs.Verdict.{compared_failure, failure_in, failure_of, told_by};
 ghost use Rattle.fx_code.specs.Code.{IsWhole};
+ghost use Rattle.fx_error.specs.PartsOf.{PartsFit};
 ghost use Rattle.fx_net.specs.Tables.{net_of};
 
 use crate::bounds::{test_bounds, test_errors, test_sums, test_wanted_errors, test_words};
@@ -166,7 +167,8 @@ impl<const N: usize> Judge<N> {
         requires room { row_count f.now p.now ≤ N }
         requires counted { AreCounted f.now p.now c.now }
         requires filled { AreFilled N f.now p.now c.now self.now.totals }
-        ensures { result ≡ parts_of f.now p.now c.now }
+        ensures value { result ≡ parts_of f.now p.now c.now }
+        ensures fits { All PartsFit result }
     {
         filters_fit(f);
         systems_fit(f.eqs());
@@ -188,7 +190,8 @@ impl<const N: usize> Judge<N> {
     pub fn report(&mut self, f: &Filter, p: &Program, c: &Cert) -> Report
         requires whole { IsWhole p.now }
         requires room { row_count f.now p.now ≤ N }
-        ensures { IsReportOf f.now p.now c.now result }
+        ensures report { IsReportOf f.now p.now c.now result }
+        ensures fits { IfSome result.parts (All PartsFit) }
     {
         if let Err(refusal) = test_form(f, p, c) {
             return without_parts(refusal);

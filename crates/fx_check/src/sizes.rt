@@ -1,11 +1,12 @@
 //! The least judge that holds a program and a filter.
 
-ghost use Rattle.std.specs.Prelude.{◌≡◌, ◌≤◌, IfOk};
+ghost use Rattle.std.specs.Prelude.{◌≡◌, ◌≤◌, All, IfOk, IfSome};
 ghost use Rattle.fx_block.specs.Failure.{first_failure};
 ghost use Rattle.fx_block.specs.Passes.{row_count};
 ghost use Rattle.fx_check.specs.Report.{IsReportOf};
 ghost use Rattle.fx_check.specs.Verdict.{failure_of};
 ghost use Rattle.fx_code.specs.Code.{IsWhole};
+ghost use Rattle.fx_error.specs.PartsOf.{PartsFit};
 
 use crate::form::joint_rows;
 use crate::judging::Judge;
@@ -59,7 +60,8 @@ fn explain_within<const N: usize>(
     requires whole { IsWhole p.now }
     requires room { row_count f.now p.now ≤ N }
     requires low { 1 ≤ N }
-    ensures { IfOk result (IsReportOf f.now p.now c.now) }
+    ensures report { IfOk result (IsReportOf f.now p.now c.now) }
+    ensures fits { IfOk result (λ r. IfSome r.parts (All PartsFit)) }
 {
     let mut judge: Judge<N> = Judge::prepare(alloc)?;
     Ok(judge.report(f, p, c))
@@ -69,7 +71,8 @@ fn explain_within<const N: usize>(
 /// reaches its limit. Its error is want of memory.
 pub fn explain(alloc: Global, f: &Filter, p: &Program, c: &Cert) -> Result<Report, AllocError>
     requires { IsWhole p.now }
-    ensures { IfOk result (IsReportOf f.now p.now c.now) }
+    ensures report { IfOk result (IsReportOf f.now p.now c.now) }
+    ensures fits { IfOk result (λ r. IfSome r.parts (All PartsFit)) }
 {
     match joint_rows(f, p) {
         0..=8 => explain_within::<8>(alloc, f, p, c),

@@ -1,5 +1,7 @@
 use Rattle.std.proofs.Common.{◌≡◌, ◌<◌, ◌∙◌, length, length-set, subst, arith}
+use Rattle.std.proofs.lemmas.List.Elements.{All-set}
 use Rattle.fx_eqs.specs.Fits.{EquationsFit}
+use Rattle.fx_error.specs.PartsOf.{PartsFit}
 use Rattle.fx_check.specs.Report.{no_parts, parts_at}
 use Rattle.fx_check.specs.Targets.{lengths_of, padded_net, target_count, targets_of}
 use Rattle.fx_check.proofs.Outputs.{targets_long}
@@ -45,9 +47,11 @@ loop-o-preserved g c =
       first = first_more no_parts c.loop-o.parts c.loop-o.o c.split.result (parts_at f p cert) inside
           c.loop-o.invariant.first here;
       behind = behind_stays no_parts c.loop-o.parts c.loop-o.o c.split.result c.loop-o.invariant.behind;
+      small = All-set PartsFit c.loop-o.parts c.loop-o.o c.split.result c.split.ensures.fits
+          c.loop-o.invariant.small;
     }
 
-pub returns : goal.returns
-returns g c =
+pub returns-clause-value : goal.returns-clause-value
+returns-clause-value g c =
     parts_listed c.args.f.now c.args.p.now c.args.c.now c.loop-o.parts c.loop-o.o (omega arith)
     c.loop-o.invariant.long c.loop-o.invariant.first c.loop-o.invariant.behind
