@@ -284,6 +284,33 @@ near_by w c num den s p e h =
     let same : 2 * unsigned_abs d * p ≡ 2 * (unsigned_abs d * p) = omega arith in
     subst (λ x. 2 * unsigned_abs x ≤ den * p) (sym all) (omega (arith, size, times, same))
 
+-- ---- not read
+
+same_coefficient : (net : Net) (i : ℕ) (which other : Which) (j l : ℕ) →
+    same_source (read other l) (read which j) ≡ true → coefficients net other i l ≡ coefficients net which i j
+same_coefficient net i NowTable NowTable j l e = ap (net.now i) (eqb-true l j e)
+same_coefficient net i NowTable OldTable j l e = cc
+same_coefficient net i NowTable InTable j l e = cc
+same_coefficient net i OldTable NowTable j l e = cc
+same_coefficient net i OldTable OldTable j l e = ap (net.old i) (eqb-true l j e)
+same_coefficient net i OldTable InTable j l e = cc
+same_coefficient net i InTable NowTable j l e = cc
+same_coefficient net i InTable OldTable j l e = cc
+same_coefficient net i InTable InTable j l e = ap (net.input i) (eqb-true l j e)
+
+-- a source whose coefficient is rounded to 0 is not read
+not_read : (g : Grid) (net : Net) (rows inputs i : ℕ) (which : Which) (j : ℕ) →
+    rounded g.fraction (coefficients net which i j) ≡ pos 0 →
+    All (λ (t : CodeTerm). same_source t.from (read which j) ≡ false)
+    (bare_row (kept_terms g net rows inputs i)).terms
+not_read g net rows inputs i which j none =
+    let ks = kept_terms g net rows inputs i in
+    All-map (λ (t : CodeTerm). same_source t.from (read which j) ≡ false) (code_term (shift_of ks)) ks
+    (each_term (λ k. same_source k.from (read which j) ≡ false) g net rows inputs i
+    (λ other l h some. false_from_ne_true _ (λ e.
+    some (ap (λ c. unsigned_abs (rounded g.fraction c)) (same_coefficient net i which other j l e)
+    ∙ ap unsigned_abs none))))
+
 -- ---- rows
 
 pub row_takes : (g : Grid) (net : Net) (rows inputs i : ℕ) (which : Which) (j : ℕ) →
@@ -304,6 +331,7 @@ row_takes g net rows inputs i which j h small =
       near = λ a b u some. near_by (weight_in (map (code_term shift) ks) (read which j) *ℤ pos (2 ^ b))
           (rounded g.fraction c) c.num (den_value c.den) (2 ^ g.fraction) (2 ^ a) (rounds a b u)
           (to_nearest g.fraction c some);
+      unread = not_read g net rows inputs i which j;
     }
 
 is_least : (shift : ℕ) (ks : List Scaled) → shift_of ks ≡ shift →

@@ -1,5 +1,5 @@
 -- What a row of a design takes of what it reads, in the numbers of its form.
-use Rattle.std.specs.Prelude.{◌≡◌, ℕ, ◌*◌, ◌^◌, ◌%◌, ◌<◌, ◌≤◌, ◌==◌, cond, IsTrue, ℤ, pos, ◌+ℤ◌, ◌-ℤ◌}
+use Rattle.std.specs.Prelude.{◌≡◌, ℕ, ◌*◌, ◌^◌, ◌%◌, ◌<◌, ◌≤◌, ◌==◌, cond, false, IsTrue, ℤ, pos, ◌+ℤ◌, ◌-ℤ◌}
 use Rattle.std.specs.Prelude.{◌*ℤ◌, unsigned_abs, List, [], ◌∷◌, All, Ok, ◌⊎◌}
 use Rattle.std.specs.List.{list_any}
 use Rattle.fx_nums.specs.Fraction.{Fraction, den_value}
@@ -32,13 +32,15 @@ IsUnit g i from shift a b =
     (pos a +ℤ pos g.fraction) +ℤ row_low g i ≡ (pos b +ℤ pos shift) +ℤ source_low g from
 
 -- Row i takes the coefficient c of a source, rounded: its weight over 2^shift, in steps of the row, is the rounded c
--- over 2^fraction, in steps of the source. So it is off by at most half of 2^-fraction such steps.
+-- over 2^fraction, in steps of the source. So it is off by at most half of 2^-fraction such steps. A source whose
+-- coefficient is rounded to 0 is not read.
 pub record Takes (g : Grid) (i : ℕ) (row : BareRow) (from : Read) (c : Fraction) : Type 0 where
   pub rounds : (a b : ℕ) → IsUnit g i from row.shift a b →
       weight_in row.terms from *ℤ pos (2 ^ b) ≡ rounded g.fraction c *ℤ pos (2 ^ a)
   pub near : (a b : ℕ) → IsUnit g i from row.shift a b → 0 < den_value c.den →
       2 * unsigned_abs ((weight_in row.terms from *ℤ pos (2 ^ b)) *ℤ pos (den_value c.den)
       -ℤ (c.num *ℤ pos (2 ^ g.fraction)) *ℤ pos (2 ^ a)) ≤ den_value c.den * 2 ^ a
+  pub unread : rounded g.fraction c ≡ pos 0 → All (λ (t : CodeTerm). same_source t.from from ≡ false) row.terms
 
 -- the sources of each kind that row i of a form may read
 abbrev pub sources : Implicit → ℕ → Which → ℕ
