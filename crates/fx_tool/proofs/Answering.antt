@@ -21,8 +21,9 @@ use Rattle.fx_text.specs.declared.fault.CodeFault.{CodeFault}
 use Rattle.fx_sim.specs.Simulation.{simulation}
 use Rattle.fx_sim.specs.declared.fault.SampleFault.{SampleFault}
 use Rattle.fx_tool.specs.Answer.{Answer, absent, Delivers}
-use Rattle.fx_tool.specs.Check.{by_failure, judged, certified, code_plan, filter_plan}
+use Rattle.fx_tool.specs.Check.{certified, code_plan, filter_plan}
 use Rattle.fx_tool.specs.Command.{Command, command_of}
+use Rattle.fx_tool.specs.Judgement.{by_failure, judged, reported, told}
 use Rattle.fx_tool.specs.Operand.{limit_of, too_long}
 use Rattle.fx_tool.specs.Plan.{Plan, Ends, Reads, by_content, answer_by, OfAnswer}
 use Rattle.fx_tool.specs.Running.{plan_of, operands_to, names_to, plan_to, answer_of, with_placed, FollowsWords}
@@ -32,7 +33,9 @@ use Rattle.fx_tool.specs.Simulate.{outputs, samples_plan}
 use Rattle.fx_tool.specs.Status.{is_spoken}
 use Rattle.fx_tool.specs.Writing.{GrowsBy}
 use Rattle.fx_tool.specs.declared.command.Verb.{Verb}
-use Rattle.fx_tool.specs.declared.command.Verb.TheVariants.{Check, Show, Simulate}
+use Rattle.fx_tool.specs.declared.command.Verb.TheVariants.{Check, Report, Show, Simulate}
+use Rattle.fx_tool.specs.declared.judgement.Detail.{Detail}
+use Rattle.fx_tool.specs.declared.judgement.Detail.TheVariants.{Brief, Full}
 use Rattle.fx_tool.specs.declared.operand.Operand.{Operand}
 use Rattle.fx_tool.specs.declared.operand.Operand.TheVariants as operand
 use Rattle.fx_tool.specs.declared.status.Status.{Status}
@@ -68,20 +71,31 @@ judged_spoken : (f : Filter) (p : Code) (c : Certificate) → IsSpoken (judged f
 unfolding judged
 judged_spoken f p c = failure_spoken (first_failure f p c) c.errors
 
-certificate_spoken : (f : Filter) (p : Code) (r : Result Certificate CertFault) → IsSpoken (certified f p r)
-certificate_spoken f p (Ok c) = judged_spoken f p c
-certificate_spoken f p (Err fault) = record { status = refl; placed = refl }
+reported_spoken : (f : Filter) (p : Code) (c : Certificate) → IsSpoken (reported f p c)
+unfolding reported
+reported_spoken f p c =
+    let verdict = judged_spoken f p c in record { status = verdict.status; placed = verdict.placed }
 
-code_spoken : (f : Filter) (r : Result Code CodeFault) → AllSpoken (code_plan f r)
-code_spoken f (Ok p) = λ cert. certificate_spoken f p (certificate_in (lines_of cert))
-code_spoken f (Err fault) = record { status = refl; placed = refl }
+told_spoken : (detail : Detail) (f : Filter) (p : Code) (c : Certificate) → IsSpoken (told detail f p c)
+told_spoken Brief f p c = judged_spoken f p c
+told_spoken Full f p c = reported_spoken f p c
 
-filter_spoken : (r : Result Filter FilterFault) → AllSpoken (filter_plan r)
-filter_spoken (Ok f) = λ code. code_spoken f (code_in code)
-filter_spoken (Err fault) = record { status = refl; placed = refl }
+certificate_spoken : (detail : Detail) (f : Filter) (p : Code) (r : Result Certificate CertFault) →
+    IsSpoken (certified detail f p r)
+certificate_spoken detail f p (Ok c) = told_spoken detail f p c
+certificate_spoken detail f p (Err fault) = record { status = refl; placed = refl }
+
+code_spoken : (detail : Detail) (f : Filter) (r : Result Code CodeFault) → AllSpoken (code_plan detail f r)
+code_spoken detail f (Ok p) = λ cert. certificate_spoken detail f p (certificate_in (lines_of cert))
+code_spoken detail f (Err fault) = record { status = refl; placed = refl }
+
+filter_spoken : (detail : Detail) (r : Result Filter FilterFault) → AllSpoken (filter_plan detail r)
+filter_spoken detail (Ok f) = λ code. code_spoken detail f (code_in code)
+filter_spoken detail (Err fault) = record { status = refl; placed = refl }
 
 verb_spoken : (v : Verb) → AllSpoken (plan_of v)
-verb_spoken Check = λ bytes. filter_spoken (filter_of_bytes bytes)
+verb_spoken Check = λ bytes. filter_spoken Brief (filter_of_bytes bytes)
+verb_spoken Report = λ bytes. filter_spoken Full (filter_of_bytes bytes)
 verb_spoken Show = λ bytes. shown_spoken (filter_of_bytes bytes)
 verb_spoken Simulate = λ bytes. samples_spoken (code_in bytes)
 

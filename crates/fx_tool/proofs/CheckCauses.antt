@@ -21,14 +21,16 @@ use Rattle.fx_block.specs.Certified.{NoneFails}
 use Rattle.fx_block.specs.Failure.{Failure, first_failure}
 use Rattle.fx_lines.specs.Verdict.{accepted_lines}
 use Rattle.fx_tool.specs.Answer.{Answer, absent, says}
-use Rattle.fx_tool.specs.Check.{by_failure, judged, certified, code_plan, filter_plan}
+use Rattle.fx_tool.specs.Check.{certified, code_plan, filter_plan}
 use Rattle.fx_tool.specs.CheckCauses.{HasFilter, HasCode, HasCertificate, HasAll}
 use Rattle.fx_tool.specs.CheckCauses.{BadFilterExactly, BadCodeExactly, BadCertificateExactly, RefusedExactly}
 use Rattle.fx_tool.specs.CheckCauses.{PassingIsAccepted}
 use Rattle.fx_tool.specs.Command.{Command}
+use Rattle.fx_tool.specs.Judgement.{by_failure, judged}
 use Rattle.fx_tool.specs.Operand.{limit_of, too_long}
 use Rattle.fx_tool.specs.Plan.{Plan, Ends, Reads, by_content, answer_by}
 use Rattle.fx_tool.specs.Running.{answer_of, names_to, operands_to, plan_to}
+use Rattle.fx_tool.specs.declared.judgement.Detail.TheVariants.{Brief}
 use Rattle.fx_tool.specs.declared.operand.Operand.{Operand}
 use Rattle.fx_tool.specs.declared.operand.Operand.TheVariants as operand
 use Rattle.fx_tool.specs.declared.status.Status.{Status}
@@ -48,11 +50,11 @@ reads_on o os name names next files bytes there short =
 -- what comes of the filter's bytes
 abbrev after_filter : Files → List ℕ → List ℕ → Result Filter FilterFault → Answer
 after_filter files code cert r =
-    answer_by (operand.Code ∷ operand.Certificate ∷ []) (code ∷ cert ∷ []) (filter_plan r) files
+    answer_by (operand.Code ∷ operand.Certificate ∷ []) (code ∷ cert ∷ []) (filter_plan Brief r) files
 
 -- and of the program's
 abbrev after_code : Files → List ℕ → Filter → Result Code CodeFault → Answer
-after_code files cert f r = answer_by (operand.Certificate ∷ []) (cert ∷ []) (code_plan f r) files
+after_code files cert f r = answer_by (operand.Certificate ∷ []) (cert ∷ []) (code_plan Brief f r) files
 
 has_filter : (words : List (List ℕ)) (files : Files) (filter code cert bytes : List ℕ) →
     HasFilter words files filter code cert bytes →
@@ -60,30 +62,30 @@ has_filter : (words : List (List ℕ)) (files : Files) (filter code cert bytes :
 has_filter words files filter code cert bytes h =
     ap (λ (c : Option Command). answer_by (operands_to c) (names_to c) (plan_to c) files) h.command
     ∙ reads_on operand.Filter (operand.Code ∷ operand.Certificate ∷ []) filter (code ∷ cert ∷ [])
-    (λ filter. filter_plan (filter_of_bytes filter)) files bytes h.bytes.there h.bytes.short
+    (λ filter. filter_plan Brief (filter_of_bytes filter)) files bytes h.bytes.there h.bytes.short
 
 has_code : (words : List (List ℕ)) (files : Files) (filter code cert bytes : List ℕ) (f : Filter) →
     HasCode words files filter code cert bytes f → answer_of words files ≡ after_code files cert f (code_in bytes)
 has_code words files filter code cert bytes f h =
     has_filter words files filter code cert h.filter_bytes h.before
     ∙ ap (after_filter files code cert) ((file_law h.filter_bytes f).1 h.described)
-    ∙ reads_on operand.Code (operand.Certificate ∷ []) code (cert ∷ []) (λ code. code_plan f (code_in code)) files bytes
-    h.bytes.there h.bytes.short
+    ∙ reads_on operand.Code (operand.Certificate ∷ []) code (cert ∷ []) (λ code. code_plan Brief f (code_in code)) files
+    bytes h.bytes.there h.bytes.short
 
 has_certificate : (words : List (List ℕ)) (files : Files) (filter code cert bytes : List ℕ) (f : Filter) (p : Code) →
     HasCertificate words files filter code cert bytes f p →
-    answer_of words files ≡ certified f p (certificate_in (lines_of bytes))
+    answer_of words files ≡ certified Brief f p (certificate_in (lines_of bytes))
 has_certificate words files filter code cert bytes f p h =
     has_code words files filter code cert h.code_bytes f h.before
     ∙ ap (after_code files cert f) ((code_law h.code_bytes p).1 h.spelled)
-    ∙ reads_on operand.Certificate [] cert [] (λ cert. Ends (certified f p (certificate_in (lines_of cert)))) files
+    ∙ reads_on operand.Certificate [] cert [] (λ cert. Ends (certified Brief f p (certificate_in (lines_of cert)))) files
     bytes h.bytes.there h.bytes.short
 
 has_all : CertificateLaw → (words : List (List ℕ)) (files : Files) (filter code cert : List ℕ) (f : Filter) (p : Code)
     (c : Certificate) → HasAll words files filter code cert f p c → answer_of words files ≡ judged f p c
 has_all law words files filter code cert f p c h =
     has_certificate words files filter code cert h.cert_bytes f p h.before
-    ∙ ap (certified f p) ((law h.cert_bytes c).1 h.text)
+    ∙ ap (certified Brief f p) ((law h.cert_bytes c).1 h.text)
 
 -- ---- later steps have other statuses
 
@@ -101,7 +103,7 @@ unfolding judged
 judged_not s done refused f p c = failure_not s done refused (first_failure f p c) f p c
 
 certified_not : (s : Status) → (Done ≡ s → ⊥) → (Refused ≡ s → ⊥) → (BadCertificate ≡ s → ⊥) →
-    (f : Filter) (p : Code) (r : Result Certificate CertFault) → IsNot s (certified f p r)
+    (f : Filter) (p : Code) (r : Result Certificate CertFault) → IsNot s (certified Brief f p r)
 certified_not s done refused bad f p (Ok c) = judged_not s done refused f p c
 certified_not s done refused bad f p (Err fault) = bad
 
@@ -127,7 +129,7 @@ program_not : (s : Status) → (Done ≡ s → ⊥) → (Refused ≡ s → ⊥) 
     (ReadFault ≡ s → ⊥) → (TooLong ≡ s → ⊥) → (files : Files) (cert : List ℕ) (f : Filter) (p : Code) →
     IsNot s (after_code files cert f (Ok p))
 program_not s done refused bad none long files cert f p =
-    content_not s none long operand.Certificate (λ bytes. certified f p (certificate_in (lines_of bytes)))
+    content_not s none long operand.Certificate (λ bytes. certified Brief f p (certificate_in (lines_of bytes)))
     (λ bytes. certified_not s done refused bad f p (certificate_in (lines_of bytes))) (get files cert)
 
 code_not : (s : Status) → (Done ≡ s → ⊥) → (Refused ≡ s → ⊥) → (BadCertificate ≡ s → ⊥) → (BadCode ≡ s → ⊥) →
@@ -180,10 +182,10 @@ bad_certificate law words files filter code cert bytes f p h =
     let is = has_certificate words files filter code cert bytes f p h in (
       λ status c text.
           judged_not BadCertificate (λ e. cc) (λ e. cc) f p c
-          (status_along _ _ BadCertificate (is ∙ ap (certified f p) ((law bytes c).1 text)) status),
+          (status_along _ _ BadCertificate (is ∙ ap (certified Brief f p) ((law bytes c).1 text)) status),
       λ none.
           (let (fault, read) = is_fault (certificate_in (lines_of bytes)) (λ c e. none c ((law bytes c).0 e)) in
-          ap (λ (a : Answer). a.status) (is ∙ ap (certified f p) read)),
+          ap (λ (a : Answer). a.status) (is ∙ ap (certified Brief f p) read)),
     )
 
 judged_accepted : (f : Filter) (p : Code) (c : Certificate) → first_failure f p c ≡ None →

@@ -1,7 +1,8 @@
 -- Status 0 is the answer only where the files read as what they stand for; then what status 0 claims follows.
 use Rattle.std.proofs.Common.{◌≡◌, inl, inr, ◌∙◌, ℕ, ℤ, Bool, true, false, List, [], ◌∷◌, length, Option, Some}
-use Rattle.std.proofs.Common.{None, IsSomeAnd, Result, Ok, Err, IsOkAnd, refl, sym, ap, subst, nat_le, cond}
+use Rattle.std.proofs.Common.{None, IsSomeAnd, Result, Ok, Err, IsOkAnd, refl, sym, ap, ap₂, subst, nat_le, cond, ◌++◌}
 use Rattle.std.specs.FinMap.{get}
+use Rattle.std.specs.Option.{option_or}
 use Rattle.fx_io.specs.Shelf.{Files}
 use Rattle.fx_files.proofs.HeldFilter.{file_law}
 use Rattle.fx_files.specs.Describes.{IsFileOf}
@@ -20,14 +21,18 @@ use Rattle.fx_cert.specs.Laws.{CertificateLaw}
 use Rattle.fx_cert.specs.Lines.{lines_of}
 use Rattle.fx_cert.specs.Reading.{certificate_in}
 use Rattle.fx_cert.specs.declared.fault.CertFault.{CertFault}
-use Rattle.fx_block.specs.Failure.{Failure, first_failure}
+use Rattle.fx_block.specs.Failure.{Failure, first_failure, form_failure, range_failure}
 use Rattle.fx_block.specs.Sound.{IsSound}
+use Rattle.fx_check.specs.Report.{known_parts, parts_of, parts_unless}
+use Rattle.fx_error.specs.declared.parts.Parts.{Parts}
 use Rattle.fx_lines.specs.Filter.{filter_lines}
+use Rattle.fx_lines.specs.Report.{report_lines}
 use Rattle.fx_lines.specs.Verdict.{accepted_lines}
 use Rattle.fx_tool.specs.Answer.{Answer, absent, Delivers}
-use Rattle.fx_tool.specs.Check.{by_failure, judged, certified, code_plan, filter_plan, Headline}
+use Rattle.fx_tool.specs.Check.{certified, check_plan, code_plan, filter_plan, Headline}
 use Rattle.fx_tool.specs.Check.{CertificateIsSound, CodeIsSound, FilterIsSound, FilesAreSound}
 use Rattle.fx_tool.specs.Command.{Command, command_of, operands_of}
+use Rattle.fx_tool.specs.Judgement.{by_failure, judged, parts_text, passing_lines, reported, told}
 use Rattle.fx_tool.specs.Operand.{limit_of, too_long}
 use Rattle.fx_tool.specs.Plan.{Plan, Ends, Reads, by_content, answer_by, OfAnswer}
 use Rattle.fx_tool.specs.Running.{plan_of, operands_to, names_to, plan_to, OfWords, Claims, DoneClaims}
@@ -36,7 +41,9 @@ use Rattle.fx_tool.specs.Show.{shown, Shows}
 use Rattle.fx_tool.specs.Simulate.{outputs, samples_plan, Simulates}
 use Rattle.fx_tool.specs.Writing.{GrowsBy}
 use Rattle.fx_tool.specs.declared.command.Verb.{Verb}
-use Rattle.fx_tool.specs.declared.command.Verb.TheVariants.{Check, Show, Simulate}
+use Rattle.fx_tool.specs.declared.command.Verb.TheVariants.{Check, Report, Show, Simulate}
+use Rattle.fx_tool.specs.declared.judgement.Detail.{Detail}
+use Rattle.fx_tool.specs.declared.judgement.Detail.TheVariants.{Brief, Full}
 use Rattle.fx_tool.specs.declared.operand.Operand.{Operand}
 use Rattle.fx_tool.specs.declared.operand.Operand.TheVariants as operand
 use Rattle.fx_tool.specs.declared.status.Status.{Status}
@@ -151,18 +158,18 @@ simulate_done files names before after h grows =
     file.is ∙ ap (λ ns. file.name ∷ ns) moments.is in
     subst (λ (names : List (List ℕ)). Claims Simulate names files before after) (sym names_are) claim
 
--- ---- `check`
+-- ---- `check` and `report`
 
-filter_done : (r : Result Filter FilterFault) (names : List (List ℕ)) (files : Files) →
-    (answer_by (operand.Code ∷ operand.Certificate ∷ []) names (filter_plan r) files).status ≡ Done →
+filter_done : (detail : Detail) (r : Result Filter FilterFault) (names : List (List ℕ)) (files : Files) →
+    (answer_by (operand.Code ∷ operand.Certificate ∷ []) names (filter_plan detail r) files).status ≡ Done →
     (f : Filter) × (r ≡ Ok f)
-filter_done (Ok f) names files h = (f, refl)
-filter_done (Err fault) names files h = cc
+filter_done detail (Ok f) names files h = (f, refl)
+filter_done detail (Err fault) names files h = cc
 
-program_done : (f : Filter) (r : Result Code CodeFault) (names : List (List ℕ)) (files : Files) →
-    (answer_by (operand.Certificate ∷ []) names (code_plan f r) files).status ≡ Done → (p : Code) × (r ≡ Ok p)
-program_done f (Ok p) names files h = (p, refl)
-program_done f (Err fault) names files h = cc
+program_done : (detail : Detail) (f : Filter) (r : Result Code CodeFault) (names : List (List ℕ)) (files : Files) →
+    (answer_by (operand.Certificate ∷ []) names (code_plan detail f r) files).status ≡ Done → (p : Code) × (r ≡ Ok p)
+program_done detail f (Ok p) names files h = (p, refl)
+program_done detail f (Err fault) names files h = cc
 
 failure_done : (r : Option Failure) (errors : List ℤ) → (by_failure r errors).status ≡ Done →
     (by_failure r errors).text ≡ accepted_lines errors
@@ -174,10 +181,43 @@ judged_done : (f : Filter) (p : Code) (c : Certificate) → (judged f p c).statu
 unfolding judged
 judged_done f p c h = failure_done (first_failure f p c) c.errors h
 
-certificate_done : (f : Filter) (p : Code) (r : Result Certificate CertFault) → (certified f p r).status ≡ Done
-    → (c : Certificate) × (r ≡ Ok c) × ((certified f p r).text ≡ accepted_lines c.errors)
-certificate_done f p (Ok c) h = (c, refl, judged_done f p c h)
-certificate_done f p (Err fault) h = cc
+none_failed : (r : Option Failure) (errors : List ℤ) → (by_failure r errors).status ≡ Done → r ≡ None
+none_failed None errors h = refl
+none_failed (Some failure) errors h = cc
+
+judged_none_failed : (f : Filter) (p : Code) (c : Certificate) → (judged f p c).status ≡ Done →
+    first_failure f p c ≡ None
+unfolding judged
+judged_none_failed f p c h = none_failed (first_failure f p c) c.errors h
+
+-- where nothing fails, the form and the sweeps do not
+known_where_none_fails : (form range others : Option Failure) (parts : List Parts) →
+    option_or form (option_or range others) ≡ None → parts_unless (option_or form range) parts ≡ Some parts
+known_where_none_fails None None others parts h = refl
+known_where_none_fails None (Some failure) others parts h = cc
+known_where_none_fails (Some failure) range others parts h = cc
+
+parts_known : (f : Filter) (p : Code) (c : Certificate) → first_failure f p c ≡ None →
+    known_parts f p c ≡ Some (parts_of f p c)
+parts_known f p c h =
+    known_where_none_fails (form_failure f p c) (range_failure f p c) _ (parts_of f p c) h
+
+reported_done : (f : Filter) (p : Code) (c : Certificate) → (reported f p c).status ≡ Done →
+    (reported f p c).text ≡ report_lines f p c (parts_of f p c) ++ accepted_lines c.errors
+unfolding reported
+reported_done f p c h =
+    ap₂ (λ a b. a ++ b) (ap (parts_text f p c) (parts_known f p c (judged_none_failed f p c h))) (judged_done f p c h)
+
+told_done : (detail : Detail) (f : Filter) (p : Code) (c : Certificate) → (told detail f p c).status ≡ Done →
+    (told detail f p c).text ≡ passing_lines detail f p c
+told_done Brief f p c h = judged_done f p c h
+told_done Full f p c h = reported_done f p c h
+
+certificate_done : (detail : Detail) (f : Filter) (p : Code) (r : Result Certificate CertFault) →
+    (certified detail f p r).status ≡ Done
+    → (c : Certificate) × (r ≡ Ok c) × ((certified detail f p r).text ≡ passing_lines detail f p c)
+certificate_done detail f p (Ok c) h = (c, refl, told_done detail f p c h)
+certificate_done detail f p (Err fault) h = cc
 
 -- of a file that is there
 of_file : (o : Option (List ℕ)) (bytes : List ℕ) (P : List ℕ → Type 0) → o ≡ Some bytes → IsSomeAnd o P → P bytes
@@ -187,8 +227,8 @@ of_file o bytes P e h = subst (λ o. IsSomeAnd o P) e h
 of_value : {T F : Type 0} (r : Result T F) (x : T) (P : T → Type 0) → r ≡ Ok x → IsOkAnd r P → P x
 of_value r x P e h = subst (λ r. IsOkAnd r P) e h
 
--- the files of `check`, and what they are read as
-record IsJudged (files : Files) (names : List (List ℕ)) (answer : Answer) : Type 0 where
+-- their files, and what they are read as
+record IsJudged (detail : Detail) (files : Files) (names : List (List ℕ)) (answer : Answer) : Type 0 where
   filter_name : List ℕ
   code_name : List ℕ
   cert_name : List ℕ
@@ -206,26 +246,26 @@ record IsJudged (files : Files) (names : List (List ℕ)) (answer : Answer) : Ty
   filter_read : filter_of_bytes filter_bytes ≡ Ok filter
   code_read : code_in code_bytes ≡ Ok program
   cert_read : certificate_in (lines_of cert_bytes) ≡ Ok certificate
-  text : answer.text ≡ accepted_lines certificate.errors
+  text : answer.text ≡ passing_lines detail filter program certificate
 
-is_judged : (files : Files) (names : List (List ℕ)) →
-    (answer_by (operands_of Check) names (plan_of Check) files).status ≡ Done →
-    IsJudged files names (answer_by (operands_of Check) names (plan_of Check) files)
-is_judged files names h =
+is_judged : (detail : Detail) (files : Files) (names : List (List ℕ)) →
+    (answer_by (operands_of Check) names (check_plan detail) files).status ≡ Done →
+    IsJudged detail files names (answer_by (operands_of Check) names (check_plan detail) files)
+is_judged detail files names h =
     let filter = is_read operand.Filter (operand.Code ∷ operand.Certificate ∷ []) names (λ bytes.
-    filter_plan (filter_of_bytes bytes)) files h in
+    filter_plan detail (filter_of_bytes bytes)) files h in
     let has_filter = along _ _ filter.same h in
-    let (f, filter_read) = filter_done (filter_of_bytes filter.bytes) filter.others files has_filter in
+    let (f, filter_read) = filter_done detail (filter_of_bytes filter.bytes) filter.others files has_filter in
     let of_filter = ap (λ r.
-    answer_by (operand.Code ∷ operand.Certificate ∷ []) filter.others (filter_plan r) files) filter_read in
+    answer_by (operand.Code ∷ operand.Certificate ∷ []) filter.others (filter_plan detail r) files) filter_read in
     let code = is_read operand.Code (operand.Certificate ∷ []) filter.others (λ bytes.
-    code_plan f (code_in bytes)) files (along _ _ of_filter has_filter) in
+    code_plan detail f (code_in bytes)) files (along _ _ of_filter has_filter) in
     let has_code = along _ _ code.same (along _ _ of_filter has_filter) in
-    let (p, code_read) = program_done f (code_in code.bytes) code.others files has_code in
-    let of_code = ap (λ r. answer_by (operand.Certificate ∷ []) code.others (code_plan f r) files) code_read in
+    let (p, code_read) = program_done detail f (code_in code.bytes) code.others files has_code in
+    let of_code = ap (λ r. answer_by (operand.Certificate ∷ []) code.others (code_plan detail f r) files) code_read in
     let cert = is_read operand.Certificate [] code.others (λ bytes.
-    Ends (certified f p (certificate_in (lines_of bytes)))) files (along _ _ of_code has_code) in
-    let (c, cert_read, text) = certificate_done f p (certificate_in (lines_of cert.bytes))
+    Ends (certified detail f p (certificate_in (lines_of bytes)))) files (along _ _ of_code has_code) in
+    let (c, cert_read, text) = certificate_done detail f p (certificate_in (lines_of cert.bytes))
     (along _ _ cert.same (along _ _ of_code has_code)) in
     record {
       filter_name = filter.name;
@@ -249,10 +289,10 @@ is_judged files names h =
     }
 
 -- what the code of `check` shows, of what the files are read as
-judged_sound : (files : Files) (names : List (List ℕ)) (answer : Answer) (j : IsJudged files names answer) →
+judged_sound : (detail : Detail) (files : Files) (names : List (List ℕ)) (answer : Answer) (j : IsJudged detail files names answer) →
     FilesAreSound (Some files) j.filter_name j.code_name j.cert_name →
     IsSound j.filter j.program j.certificate.errors
-judged_sound files names answer j sound =
+judged_sound detail files names answer j sound =
     let filter = of_file (get files j.filter_name) j.filter_bytes
     (FilterIsSound (Some files) j.code_name j.cert_name) j.filter_there sound in
     let code = of_file (get files j.code_name) j.code_bytes (CodeIsSound (Some files) j.cert_name j.filter) j.code_there
@@ -261,10 +301,10 @@ judged_sound files names answer j sound =
     (of_value (code_in j.code_bytes) j.program _ j.code_read code) in
     of_value (certificate_in (lines_of j.cert_bytes)) j.certificate _ j.cert_read cert
 
-headline : CertificateLaw → (files : Files) (names : List (List ℕ)) (answer : Answer) (before after : Option (List ℕ))
-    (j : IsJudged files names answer) → FilesAreSound (Some files) j.filter_name j.code_name j.cert_name →
-    GrowsBy answer.text before after → Headline files j.filter_name j.code_name j.cert_name before after
-headline law files names answer before after j sound grows = record {
+headline : CertificateLaw → (detail : Detail) (files : Files) (names : List (List ℕ)) (answer : Answer)
+    (before after : Option (List ℕ)) (j : IsJudged detail files names answer) → FilesAreSound (Some files) j.filter_name j.code_name j.cert_name →
+    GrowsBy answer.text before after → Headline detail files j.filter_name j.code_name j.cert_name before after
+headline law detail files names answer before after j sound grows = record {
   filter = j.filter;
   program = j.program;
   certificate = j.certificate;
@@ -274,7 +314,7 @@ headline law files names answer before after j sound grows = record {
       ((code_law j.code_bytes j.program).0 j.code_read);
   certificate_text = there (get files j.cert_name) j.cert_bytes (λ bytes. IsTextOf bytes j.certificate) j.cert_there
       ((law j.cert_bytes j.certificate).0 j.cert_read);
-  sound = judged_sound files names answer j sound;
+  sound = judged_sound detail files names answer j sound;
   printed = subst (λ (t : List ℕ). GrowsBy t before after) j.text grows;
 }
 
@@ -284,10 +324,23 @@ check_done : CertificateLaw → (files : Files) (names : List (List ℕ)) (befor
     → GrowsBy (answer_by (operands_of Check) names (plan_of Check) files).text before after →
     Claims Check names files before after
 check_done law files names before after h sound grows =
-    let j = is_judged files names h in
+    let j = is_judged Brief files names h in
     let shown = subst (λ (names : List (List ℕ)). Establishes Check names (Some files)) j.names_are sound in
     subst (λ (names : List (List ℕ)). Claims Check names files before after) (sym j.names_are)
-    (headline law files names (answer_by (operands_of Check) names (plan_of Check) files) before after j shown grows)
+    (headline law Brief files names (answer_by (operands_of Check) names (plan_of Check) files) before after j shown
+    grows)
+
+report_done : CertificateLaw → (files : Files) (names : List (List ℕ)) (before after : Option (List ℕ)) →
+    (answer_by (operands_of Report) names (plan_of Report) files).status ≡ Done →
+    Establishes Report names (Some files)
+    → GrowsBy (answer_by (operands_of Report) names (plan_of Report) files).text before after →
+    Claims Report names files before after
+report_done law files names before after h sound grows =
+    let j = is_judged Full files names h in
+    let shown = subst (λ (names : List (List ℕ)). Establishes Report names (Some files)) j.names_are sound in
+    subst (λ (names : List (List ℕ)). Claims Report names files before after) (sym j.names_are)
+    (headline law Full files names (answer_by (operands_of Report) names (plan_of Report) files) before after j shown
+    grows)
 
 -- ---- each command
 
@@ -295,6 +348,7 @@ verb_done : CertificateLaw → (v : Verb) (names : List (List ℕ)) (files : Fil
     (answer_by (operands_of v) names (plan_of v) files).status ≡ Done → Establishes v names (Some files)
     → GrowsBy (answer_by (operands_of v) names (plan_of v) files).text before after → Claims v names files before after
 verb_done law Check names files before after h shown grows = check_done law files names before after h shown grows
+verb_done law Report names files before after h shown grows = report_done law files names before after h shown grows
 verb_done law Show names files before after h shown grows = show_done files names before after h grows
 verb_done law Simulate names files before after h shown grows = simulate_done files names before after h grows
 

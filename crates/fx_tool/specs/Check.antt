@@ -1,5 +1,5 @@
--- Of `check`: its plan, and what status 0 claims.
-use Rattle.std.specs.Prelude.{ℕ, ℤ, List, Option, Some, None, Result, Ok, Err, IsOkAnd, IsSomeAnd}
+-- Of `check`, and of `report` with its details: their plan, and what status 0 claims.
+use Rattle.std.specs.Prelude.{ℕ, List, Option, Result, Ok, Err, IsOkAnd, IsSomeAnd}
 use Rattle.std.specs.FinMap.{get}
 use Rattle.fx_io.specs.Shelf.{Files}
 use Rattle.fx_files.specs.Describes.{IsFileOf}
@@ -14,42 +14,32 @@ use Rattle.fx_cert.specs.Certificate.{Certificate, IsTextOf}
 use Rattle.fx_cert.specs.Lines.{lines_of}
 use Rattle.fx_cert.specs.Reading.{certificate_in}
 use Rattle.fx_cert.specs.declared.fault.CertFault.{CertFault}
-use Rattle.fx_block.specs.Failure.{Failure, first_failure}
 use Rattle.fx_block.specs.Sound.{IsSound}
-use Rattle.fx_lines.specs.Verdict.{accepted_lines, refused_line}
-use Rattle.fx_tool.specs.Answer.{Answer, says}
+use Rattle.fx_tool.specs.Answer.{Answer}
+use Rattle.fx_tool.specs.Judgement.{told, passing_lines}
 use Rattle.fx_tool.specs.Plan.{Plan, Ends, Reads}
 use Rattle.fx_tool.specs.Reading.{Has}
 use Rattle.fx_tool.specs.Refused.{refused_filter, refused_code, refused_certificate}
 use Rattle.fx_tool.specs.Writing.{GrowsBy}
-use Rattle.fx_tool.specs.declared.status.Status.TheVariants.{Done, Refused}
-
--- by the first inequality that fails, if one does
-abbrev pub by_failure : Option Failure → List ℤ → Answer
-by_failure None errors = says Done (accepted_lines errors)
-by_failure (Some failure) errors = says Refused (refused_line failure)
-
--- a certificate, for a filter and a program
-unfoldable pub judged : Filter → Code → Certificate → Answer
-judged f p c = by_failure (first_failure f p c) c.errors
+use Rattle.fx_tool.specs.declared.judgement.Detail.{Detail}
 
 -- what a certificate's bytes are read as
-abbrev pub certified : Filter → Code → Result Certificate CertFault → Answer
-certified f p (Ok c) = judged f p c
-certified f p (Err fault) = refused_certificate fault
+abbrev pub certified : Detail → Filter → Code → Result Certificate CertFault → Answer
+certified detail f p (Ok c) = told detail f p c
+certified detail f p (Err fault) = refused_certificate fault
 
 -- the program goes on to the certificate, or its first fault is told
-abbrev pub code_plan : Filter → Result Code CodeFault → Plan
-code_plan f (Ok p) = Reads (λ cert. Ends (certified f p (certificate_in (lines_of cert))))
-code_plan f (Err fault) = Ends (refused_code fault)
+abbrev pub code_plan : Detail → Filter → Result Code CodeFault → Plan
+code_plan detail f (Ok p) = Reads (λ cert. Ends (certified detail f p (certificate_in (lines_of cert))))
+code_plan detail f (Err fault) = Ends (refused_code fault)
 
 -- the filter goes on to the program
-abbrev pub filter_plan : Result Filter FilterFault → Plan
-filter_plan (Ok f) = Reads (λ code. code_plan f (code_in code))
-filter_plan (Err fault) = Ends (refused_filter fault)
+abbrev pub filter_plan : Detail → Result Filter FilterFault → Plan
+filter_plan detail (Ok f) = Reads (λ code. code_plan detail f (code_in code))
+filter_plan detail (Err fault) = Ends (refused_filter fault)
 
-abbrev pub check_plan : Plan
-check_plan = Reads (λ filter. filter_plan (filter_of_bytes filter))
+abbrev pub check_plan : Detail → Plan
+check_plan detail = Reads (λ filter. filter_plan detail (filter_of_bytes filter))
 
 -- ---- what holds of the files beside the answer, where that is status 0; of files that are not told nothing is said
 
@@ -74,7 +64,7 @@ FilesAreSound told filter code cert = Has told filter (FilterIsSound told code c
 -- bounds, of any length, each row of the program ends with the exact sum in its accumulator, each stored word lies in
 -- its format, and each output differs from the filter's exact output by at most the certificate's error, which is the
 -- one that was printed.
-pub record Headline (files : Files) (filter_name code_name certificate_name : List ℕ)
+pub record Headline (detail : Detail) (files : Files) (filter_name code_name certificate_name : List ℕ)
     (before after : Option (List ℕ)) : Type 0 where
   pub filter : Filter
   pub program : Code
@@ -83,4 +73,4 @@ pub record Headline (files : Files) (filter_name code_name certificate_name : Li
   pub code_text : IsSomeAnd (get files code_name) (λ bytes. Spells bytes program)
   pub certificate_text : IsSomeAnd (get files certificate_name) (λ bytes. IsTextOf bytes certificate)
   pub sound : IsSound filter program certificate.errors
-  pub printed : GrowsBy (accepted_lines certificate.errors) before after
+  pub printed : GrowsBy (passing_lines detail filter program certificate) before after

@@ -21,6 +21,8 @@ use crate::operand::Operand;
 pub enum Verb {
     /// Judges a filter, a program and a certificate.
     Check,
+    /// Judges them, and tells what the errors are made of.
+    Report,
     /// Shows a filter.
     Show,
     /// Runs a program on samples.
@@ -28,7 +30,7 @@ pub enum Verb {
 }
 
 /// Each command.
-pub const VERBS: [Verb; 3] = [Verb::Check, Verb::Show, Verb::Simulate];
+pub const VERBS: [Verb; 4] = [Verb::Check, Verb::Report, Verb::Show, Verb::Simulate];
 
 impl Verb {
     /// Its word on the command line.
@@ -37,6 +39,7 @@ impl Verb {
     {
         match self {
             Verb::Check => "check",
+            Verb::Report => "report",
             Verb::Show => "show",
             Verb::Simulate => "simulate",
         }
@@ -47,7 +50,9 @@ impl Verb {
         ensures { result.now ≡ operands_of self }
     {
         match self {
-            Verb::Check => &[Operand::Filter, Operand::Code, Operand::Certificate],
+            Verb::Check | Verb::Report => {
+                &[Operand::Filter, Operand::Code, Operand::Certificate]
+            }
             Verb::Show => &[Operand::Filter],
             Verb::Simulate => &[Operand::Code, Operand::Samples],
         }

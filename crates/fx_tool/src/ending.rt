@@ -1,6 +1,7 @@
 ghost use Rattle.std.specs.Prelude.{◌≡◌, ◌≢◌, ◌⊎◌, ◌≤◌, IfOk, IsTrue};
 ghost use Rattle.fx_io.specs.Causes.{Rose};
 ghost use Rattle.fx_tool.specs.Answer.{says, Delivers};
+ghost use Rattle.fx_tool.specs.Judgement.{led_by};
 ghost use Rattle.fx_tool.specs.Status.{is_spoken, IsBuiltStatus};
 
 use crate::status::Status;
@@ -42,6 +43,14 @@ impl Ending {
         ensures { IfOk result (λ e. e ≡ says status line.now) }
     {
         Ok(Ending::new(status, Vec::from_slice(alloc, line.as_bytes())?))
+    }
+
+    /// The same with lines before its text.
+    pub fn led_by(&self, mut lines: Vec<u8>) -> Result<Ending, AllocError>
+        ensures { IfOk result (λ e. e ≡ led_by lines.items self.now) }
+    {
+        lines.extend_from_slice(&self.text)?;
+        Ok(Ending::new(self.status, lines))
     }
 
     /// Puts the text, and ends with the status.

@@ -23,6 +23,7 @@ ghost use Rattle.fx_tool.specs.Running.{
 use crate::check::check;
 use crate::command::{Verb, command_of};
 use crate::ending::Ending;
+use crate::judgement::Detail;
 use crate::show::show;
 use crate::simulate::simulate;
 use crate::status::Status;
@@ -51,7 +52,10 @@ fn command_ending<S: Shelf>(
 {
     match (verb, names) {
         (Verb::Check, [filter, code, cert]) => {
-            check(alloc, filter.as_str(), code.as_str(), cert.as_str(), shelf)
+            check(alloc, Detail::Brief, filter.as_str(), code.as_str(), cert.as_str(), shelf)
+        }
+        (Verb::Report, [filter, code, cert]) => {
+            check(alloc, Detail::Full, filter.as_str(), code.as_str(), cert.as_str(), shelf)
         }
         (Verb::Show, [filter]) => show(alloc, filter.as_str(), shelf),
         (Verb::Simulate, [code, samples]) => {
@@ -91,10 +95,10 @@ fn answer<S: Shelf, K: Sink>(alloc: Global, words: &[String], shelf: &mut S, out
 /// a text; what it gives is the answer of the words and the files, unless a read, a write or memory fails. Then nothing
 /// is put after a failed read, and the first bytes of the text after a failed write or want of memory.
 ///
-/// With `Done` of `check`: for every list of input words within the filter's bounds, of any length, every row of the
-/// code ends with the exact sum in its accumulator, every stored word lies in its format, and every output differs from
-/// the filter's exact output by at most the certificate's error, which is the one printed. With `Done` of the other
-/// commands: the files were read as what they stand for, and all of that was put.
+/// With `Done` of `check` and of `report`: for every list of input words within the filter's bounds, of any length,
+/// every row of the code ends with the exact sum in its accumulator, every stored word lies in its format, and every
+/// output differs from the filter's exact output by at most the certificate's error, which is the one printed. With
+/// `Done` of the other commands: the files were read as what they stand for, and all of that was put.
 pub fn run<S: Shelf, K: Sink>(alloc: Global, words: &[String], shelf: &mut S, out: &mut K) -> Status
     requires { CanRead (S.seen shelf.old) (texts words.now) }
     ensures { Runs (texts words.now) (S.seen shelf.old) (S.seen shelf.new)

@@ -8,7 +8,7 @@ use Rattle.fx_tool.proofs.check.check.Goals as goal
 pub returns-in-Some-clause-follows : goal.returns-in-Some-clause-follows
 returns-in-Some-clause-follows g c =
     after_read operand.Filter (operand.Code ∷ operand.Certificate ∷ []) c.args.filter.now
-    (c.args.code.now ∷ c.args.cert.now ∷ []) (λ filter. filter_plan (filter_of_bytes filter))
+    (c.args.code.now ∷ c.args.cert.now ∷ []) (λ filter. filter_plan c.args.detail (filter_of_bytes filter))
     (g.S.Shelf.seen c.args.shelf.now) (g.S.Shelf.seen c.read_operand.new.shelf)
     (g.S.Shelf.seen c.with_file.new.shelf)
     (option_map (λ bytes. bytes.items) c.in_ok-bytes.field-0) c.deref.result.now

@@ -8,7 +8,7 @@ use Rattle.fx_tool.proofs.check.with_filter.Goals as goal
 pub returns-in-Some-clause-follows : goal.returns-in-Some-clause-follows
 returns-in-Some-clause-follows g c =
     after_read operand.Code (operand.Certificate ∷ []) c.args.code.now (c.args.cert.now ∷ [])
-    (λ code. code_plan c.args.filter.now (code_in code)) (g.S.Shelf.seen c.args.shelf.now)
+    (λ code. code_plan c.args.detail c.args.filter.now (code_in code)) (g.S.Shelf.seen c.args.shelf.now)
     (g.S.Shelf.seen c.read_operand.new.shelf) (g.S.Shelf.seen c.with_code.new.shelf)
     (option_map (λ bytes. bytes.items) c.in_ok-bytes.field-0) c.deref.result.now
     c.read_operand.result c.in_ok-bytes.field-0 c.with_code.result c.in_ok-bytes.was
