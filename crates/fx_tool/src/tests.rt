@@ -171,6 +171,58 @@ fn judges_by_the_files(rt: HostRuntime) -> Result<(), Fail> {
     Ok(())
 }
 
+// Its last row counts itself eightfold: no weight of the sweep stays within its limit.
+const GROWING_CODE: &[u8] =
+    b"#include \"fixif.h\"\nSTEP(32, 1, 1, 1)\n{\nIN(u0, 16);\na = 1;\na += MUL(8, s0, 0);\n\
+      a += MUL(1, u0, 1);\nr0 = LOW(SAR(a, 1), 16);\nOUT(0, r0);\ns0 = r0;\n}\n";
+
+#[test]
+fn reports_by_the_files(rt: HostRuntime) -> Result<(), Fail> {
+    let table: [Row<'_>; 5] = [
+        (
+            &[("f", FILTER), ("c", CODE), ("k", CERT)],
+            Status::Done,
+            b"row 0 width 16 bound 51 shift 1 spare 32716\n\
+              output 0 rounding 0.500000000 difference 0.000000000 rest 0.000000000 total 0.500000000 \
+              target 1\naccepted\nerror 0 0.500000000\n",
+        ),
+        (
+            &[("f", FILTER), ("c", CODE), ("k", LOW_CERT)],
+            Status::Refused,
+            b"row 0 width 16 bound 50 shift 1 spare 32717\n\
+              output 0 rounding 0.500000000 difference 0.000000000 rest 0.000000000 total 0.500000000 \
+              target 1\nrefused I3 row 0 931560575722332356608 922337203685477580800\n",
+        ),
+        // Without the parts: a sweep reaches its limit, and then the form differs.
+        (
+            &[
+                ("f", RECURSIVE_FILTER),
+                ("c", GROWING_CODE),
+                ("k", RECURSIVE_CERT),
+            ],
+            Status::Refused,
+            b"refused I2 target 0 rest 0 309485009821345068724781056 309485009821345068724781056\n",
+        ),
+        (
+            &[
+                ("f", FILTER),
+                ("c", CODE),
+                (
+                    "k",
+                    b"fixif certificate 1\nlength 1\nrows 1\nX 51\noutputs 1\n\
+                      E 9223372036854775808\nend\n",
+                ),
+            ],
+            Status::Refused,
+            b"refused I1 rows 1 2\n",
+        ),
+        (&[("f", FILTER), ("c", CODE)], Status::ReadFault, b""),
+    ];
+    let words = ["fixif", "report", "f", "c", "k"];
+    assert_eq!(rt; first_wrong(rt.alloc(), &words, &table)?, None);
+    Ok(())
+}
+
 #[test]
 fn a_long_certificate_is_not_judged(rt: HostRuntime) -> Result<(), Fail> {
     let alloc = rt.alloc();
