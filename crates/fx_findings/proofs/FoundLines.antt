@@ -6,7 +6,9 @@ use Rattle.std.specs.List.{flat_map}
 use Rattle.std.proofs.lemmas.List.Concat.{flat_map-cons}
 use Rattle.fx_block.specs.declared.least.Least.{Least}
 use Rattle.fx_block.specs.declared.least.Least.TheVariants as least
+use Rattle.fx_block.specs.declared.least.LengthWhy.{LengthWhy}
 use Rattle.fx_block.specs.declared.least.LengthWhy.TheVariants as why
+use Rattle.fx_gain.specs.declared.fails.LengthFail.{LengthFail}
 use Rattle.fx_decimal.specs.Printed.{down_text}
 use Rattle.fx_files.specs.Forms.{form_text, structure_text}
 use Rattle.fx_files.specs.declared.forms.Form.{Form}
@@ -28,8 +30,8 @@ use Rattle.fx_lines.proofs.PrintedParts.{number_line, numbered, numbers_line, pa
 use Rattle.fx_lines.proofs.PrintedParts.{signed_printed}
 use Rattle.fx_lines.proofs.VerdictLines.{errors_are_lines, place_printed}
 use Rattle.fx_findings.specs.Designs.{choice_text, fail_line, failed_line}
-use Rattle.fx_findings.specs.Laws.{DesignLines, LengthLine, NoDesignLines, PeakLines, StructureFaultLine}
-use Rattle.fx_findings.specs.Peaks.{bounds_line, gain_line, range_line, words_text, worst_line}
+use Rattle.fx_findings.specs.Laws.{DesignLines, NoDesignLines, NoLengthLines, PeakLines, StructureFaultLine}
+use Rattle.fx_findings.specs.Peaks.{bounds_line, gain_line, length_line, range_line, words_text, worst_line}
 
 -- ---- pieces
 
@@ -207,7 +209,7 @@ peak o i gain words = (
   ),
 )
 
-pub length_is_line : LengthLine
+length_is_line : (moments input : ℕ) (why : LengthWhy) → IsLine (length_line moments input why)
 length_is_line moments input (why.Range range) =
     before (codes "length " ++ decimal moments) (range_line range) (numbered (codes "length ") moments refl)
     (range_is_line range)
@@ -216,3 +218,19 @@ length_is_line moments input (why.Bounds bounds) =
     before (front ++ decimal input) (bounds_line bounds)
     (numbered front input (both_printed (codes "length " ++ decimal moments) (codes " input ")
     (numbered (codes "length ") moments refl) refl)) (bounds_are_line bounds)
+
+pub no_length : NoLengthLines
+no_length fails = (
+  codes "no design\n",
+  (
+    flat_map (λ (f : LengthFail). length_line f.length f.input f.why) fails,
+    (
+      refl,
+      (
+        line_of (codes "no design") refl,
+        entry_lines (λ (f : LengthFail). length_line f.length f.input f.why)
+            (λ f. length_is_line f.length f.input f.why) fails,
+      ),
+    ),
+  ),
+)

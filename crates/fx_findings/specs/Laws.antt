@@ -1,13 +1,13 @@
 -- What the laws of this crate say.
 use Rattle.std.specs.Prelude.{◌≢◌, ℕ, zero, suc, ℤ, List, length}
-use Rattle.fx_block.specs.declared.least.LengthWhy.{LengthWhy}
+use Rattle.fx_gain.specs.declared.fails.LengthFail.{LengthFail}
 use Rattle.fx_make.specs.declared.fail.Failed.{Failed}
 use Rattle.fx_make.specs.declared.refusal.StructureFault.{StructureFault}
 use Rattle.fx_make.specs.declared.refusal.StructureFault.TheVariants.{NoMemory}
 use Rattle.fx_nums.specs.Interval.{Interval}
 use Rattle.fx_lines.specs.Laws.{AreLines, IsLine}
 use Rattle.fx_findings.specs.Designs.{design_lines, no_design_lines}
-use Rattle.fx_findings.specs.Peaks.{length_line, peak_lines}
+use Rattle.fx_findings.specs.Peaks.{no_length_lines, peak_lines}
 use Rattle.fx_findings.specs.Structures.{structure_fault_line}
 
 -- a design is told in one line, and one more for each output
@@ -23,9 +23,10 @@ NoDesignLines = (fails : List Failed) → AreLines (suc (length fails)) (no_desi
 abbrev pub StructureFaultLine : Type 0
 StructureFaultLine = (fault : StructureFault) → fault ≢ NoMemory → IsLine (structure_fault_line fault)
 
--- a gain and its words are two lines, and a length that does not do is one
+-- a gain and its words are two lines
 abbrev pub PeakLines : Type 0
 PeakLines = (o i : ℕ) (gain : Interval) (words : List ℤ) → AreLines (suc (suc zero)) (peak_lines o i gain words)
 
-abbrev pub LengthLine : Type 0
-LengthLine = (moments input : ℕ) (why : LengthWhy) → IsLine (length_line moments input why)
+-- that there is none is told in one line, and one more for each length
+abbrev pub NoLengthLines : Type 0
+NoLengthLines = (fails : List LengthFail) → AreLines (suc (length fails)) (no_length_lines fails)

@@ -10,6 +10,8 @@ use Rattle.fx_block.specs.declared.least.Least.{Least}
 use Rattle.fx_block.specs.declared.least.Least.TheVariants.{Rest, Over, Slow}
 use Rattle.fx_block.specs.declared.least.LengthWhy.{LengthWhy}
 use Rattle.fx_block.specs.declared.least.LengthWhy.TheVariants.{Range, Bounds}
+use Rattle.fx_gain.specs.Peaks.{PeakValues, interval_of, words_of}
+use Rattle.fx_gain.specs.declared.fails.LengthFail.{LengthFail}
 use Rattle.fx_lines.specs.Verdict.{place_text, sides_line, up_part}
 use Rattle.fx_lines.specs.declared.decimals.TheConstants.{PLACES}
 
@@ -32,10 +34,13 @@ worst_line o i words = codes "worst " ++ decimal o ++ codes " " ++ decimal i ++ 
 abbrev pub peak_lines : ℕ → ℕ → Interval → List ℤ → List ℕ
 peak_lines o i gain words = gain_line o i gain ++ worst_line o i words
 
--- for each output, and in it for each input
-abbrev pub gain_lines : ℕ → ℕ → (ℕ → ℕ → Interval) → (ℕ → ℕ → List ℤ) → List ℕ
-gain_lines outputs inputs gain words =
-    joined outputs (λ o. joined inputs (λ i. peak_lines o i (gain o i) (words o i)))
+-- those of each input for one output
+abbrev pub output_lines : PeakValues → ℕ → List ℕ
+output_lines p o = joined p.inputs (λ i. peak_lines o i (interval_of p o i) (words_of p o i))
+
+-- output by output
+abbrev pub gain_lines : PeakValues → List ℕ
+gain_lines p = joined p.outputs (output_lines p)
 
 -- ---- lengths that do not do
 
@@ -56,3 +61,7 @@ abbrev pub length_line : ℕ → ℕ → LengthWhy → List ℕ
 length_line moments input (Range range) = codes "length " ++ decimal moments ++ range_line range
 length_line moments input (Bounds bounds) =
     codes "length " ++ decimal moments ++ codes " input " ++ decimal input ++ bounds_line bounds
+
+-- each length with what fails
+abbrev pub no_length_lines : List LengthFail → List ℕ
+no_length_lines fails = codes "no design\n" ++ flat_map (λ f. length_line f.length f.input f.why) fails

@@ -9,5 +9,5 @@ mod structure;
 mod tests;
 
 pub use design::{design_lines, designs_are_lines, no_design_lines};
-pub use peaks::{gains_are_lines, put_length, put_peak};
+pub use peaks::{gain_lines, gains_are_lines, no_length_lines};
 pub use structure::{structure_fault_line, structure_faults_are_one_line};

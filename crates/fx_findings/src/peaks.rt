@@ -1,23 +1,28 @@
 // The lines of peak gains, and of lengths that do not do.
 
-ghost use Rattle.std.specs.Prelude.{◌≡◌, ◌++◌, OnOk};
+ghost use Rattle.std.specs.Prelude.{◌≡◌, ◌++◌, ◌<◌, length, IfOk, OnOk};
 ghost use Rattle.fx_findings.specs.Peaks.{
   bounds_line,
   gain_line,
+  gain_lines,
   length_line,
+  no_length_lines,
+  output_lines,
   peak_lines,
   range_line,
   words_text,
   worst_line,
 };
-ghost use Rattle.fx_findings.specs.Laws.{LengthLine, PeakLines};
+ghost use Rattle.fx_findings.specs.Laws.{NoLengthLines, PeakLines};
 
 use fx_block::{Least, LengthWhy};
 use fx_decimal::print_down;
+use fx_files::Filter;
+use fx_gain::{LengthFail, Peaks};
 use fx_lines::{PLACES, put_compared, put_field, put_target, put_up, put_word};
 use fx_nums::Iv;
 use fx_sweep::TargetRange;
-use std::alloc::AllocError;
+use std::alloc::{AllocError, Global};
 
 // How far an input can drive an output.
 #[tactic(auto, using(crate::proofs::Joined::regrouped))]
@@ -58,10 +63,9 @@ fn put_worst(
     put_word(text, "\n")
 }
 
-/// Puts behind a text the lines of the gain from an input to an output: its ends in input steps with nine places,
-/// rounded outwards in the last, and the words of the input that drive the output the furthest, in the order of time.
+// The gain from an input to an output, and the words of the input that drive the output the furthest.
 #[tactic(auto, using(crate::proofs::Joined::regrouped))]
-pub fn put_peak(
+fn put_peak(
     text: &mut Vec<u8>,
     output: usize,
     input: usize,
@@ -72,6 +76,39 @@ pub fn put_peak(
 {
     put_gain(text, output, input, gain)?;
     put_worst(text, output, input, words)
+}
+
+// The gains of all inputs for one output.
+fn put_output(
+    text: &mut Vec<u8>,
+    filter: &Filter,
+    peaks: &Peaks,
+    output: usize,
+) -> Result<(), AllocError>
+    requires inside { output < peaks.now.outputs }
+    requires inputs { peaks.now.inputs ≡ length filter.now.inputs }
+    ensures { OnOk result (text.new.items ≡ text.old.items ++ output_lines peaks.now output) }
+{
+    for input in 0..filter.inputs().len() {
+        let gain = peaks.enclosure(output, input);
+        put_peak(text, output, input, gain, peaks.worst(output, input))?;
+    }
+    Ok(())
+}
+
+/// The lines of a filter's peak gains: for each output and in it for each input the ends of the gain, in input steps
+/// with nine places, rounded outwards in the last, and the words of the input that drive the output the furthest, in
+/// the order of time. The peaks are those of the filter.
+pub fn gain_lines(alloc: Global, filter: &Filter, peaks: &Peaks) -> Result<Vec<u8>, AllocError>
+    requires outputs { peaks.now.outputs ≡ length filter.now.outputs }
+    requires inputs { peaks.now.inputs ≡ length filter.now.inputs }
+    ensures { IfOk result (λ t. t.items ≡ gain_lines peaks.now) }
+{
+    let mut text = Vec::new(alloc);
+    for output in 0..filter.outputs().len() {
+        put_output(&mut text, filter, peaks, output)?;
+    }
+    Ok(text)
 }
 
 // A target whose sweep meets a range, and the number there.
@@ -105,15 +142,9 @@ fn put_bounds(text: &mut Vec<u8>, bounds: Least) -> Result<(), AllocError>
     }
 }
 
-/// Puts behind a text the line of a length that does not do, in moments; the input, whose bounds do not come to rest,
-/// is named with bounds alone.
+// A length that does not do; the input, whose bounds do not come to rest, is named with bounds alone.
 #[tactic(auto, using(crate::proofs::Joined::regrouped))]
-pub fn put_length(
-    text: &mut Vec<u8>,
-    length: u16,
-    input: u8,
-    why: LengthWhy,
-) -> Result<(), AllocError>
+fn put_length(text: &mut Vec<u8>, length: u16, input: u8, why: LengthWhy) -> Result<(), AllocError>
     ensures { OnOk result (text.new.items ≡ text.old.items ++ length_line length input why) }
 {
     put_field(text, "length ", length)?;
@@ -126,9 +157,20 @@ pub fn put_length(
     }
 }
 
-/// A law with nothing to run: a gain and its words are two lines, a length that does not do is one, with no control byte
-/// before a line feed.
+/// The lines of a filter without peak gains: each length with what fails, in their order. Lengths are in moments.
+pub fn no_length_lines(alloc: Global, fails: &[LengthFail]) -> Result<Vec<u8>, AllocError>
+    ensures { IfOk result (λ t. t.items ≡ no_length_lines fails.now) }
+{
+    let mut text = Vec::from_slice(alloc, b"no design\n")?;
+    for fail in fails {
+        put_length(&mut text, fail.length, fail.input, fail.why)?;
+    }
+    Ok(text)
+}
+
+/// A law with nothing to run: a gain and its words are two lines, that there is none is told in one line and one more
+/// for each length, with no control byte before a line feed.
 pub fn gains_are_lines()
     ensures gain { PeakLines }
-    ensures length { LengthLine }
+    ensures failed { NoLengthLines }
 {}

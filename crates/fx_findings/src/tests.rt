@@ -1,21 +1,26 @@
-use crate::{design_lines, no_design_lines, put_length, put_peak, structure_fault_line};
+use crate::{design_lines, gain_lines, no_design_lines, no_length_lines, structure_fault_line};
 use fx_block::{Least, LengthWhy};
 use fx_cert::Cert;
-use fx_files::{Form, Structure};
+use fx_files::{Form, Structure, read_filter};
+use fx_gain::{LengthFail, peak};
 use fx_make::{Fail, Failed, StructureFault};
 use fx_nums::Iv;
 use fx_sweep::{Place, RangeAt, TargetRange};
 use std::test::Fail as TestFail;
 
-// What is put behind a text stands behind it.
+// y(k) = u(k) - 0.5 u(k-1), on words up to 100.
+const FILTER: &[u8] =
+    b"form = \"tf\"\nb = [\"1\", \"-0.5\"]\na = [\"1\"]\nlengths = [3]\n[[inputs]]\nwidth = 8\nbound = 100\n[[outputs]]\nwidth = 16\nerror = \"3\"\n";
+
 #[test]
 fn a_gain_has_its_ends_and_its_words(rt: HostRuntime) -> Result<(), TestFail> {
-    let gain = Iv::point(-1).hull(Iv::point(36893488147419103233));
-    let mut text = Vec::from_slice(rt.alloc(), b"x")?;
-    put_peak(&mut text, 1, 0, gain, &[100, -100, 0])?;
+    let filter = read_filter(rt.alloc(), FILTER)?;
+    let Ok(peaks) = peak(rt.alloc(), &filter) else {
+        return Err(TestFail::from("peaks"));
+    };
     assert_eq!(rt;
-        text.as_slice(),
-        b"xgain 1 0 -0.000000001 2.000000001\nworst 1 0 100 -100 0\n".as_slice()
+        gain_lines(rt.alloc(), &filter, &peaks)?.as_slice(),
+        b"gain 0 0 150.000000000 150.000000000\nworst 0 0 0 -100 100\n".as_slice()
     );
     Ok(())
 }
@@ -42,15 +47,34 @@ const SLOW: LengthWhy = LengthWhy::Bounds(Least::Slow {
     after: 9,
 });
 
+fn lengths() -> [LengthFail; 3] {
+    [
+        LengthFail {
+            length: 64,
+            input: 0,
+            why: RANGE,
+        },
+        LengthFail {
+            length: 256,
+            input: 1,
+            why: OVER,
+        },
+        LengthFail {
+            length: 4096,
+            input: 0,
+            why: SLOW,
+        },
+    ]
+}
+
+const LENGTH_LINES: &[u8] =
+    b"no design\nlength 64 range target 2 gain 3 309485009821345068724781056\nlength 256 input 1 over row 2 2147483648 2147483647\nlength 4096 input 0 slow row 5 8 9\n";
+
 #[test]
 fn lengths_have_their_lines(rt: HostRuntime) -> Result<(), TestFail> {
-    let mut text = Vec::new(rt.alloc());
-    put_length(&mut text, 64, 0, RANGE)?;
-    put_length(&mut text, 256, 1, OVER)?;
-    put_length(&mut text, 4096, 0, SLOW)?;
     assert_eq!(rt;
-        text.as_slice(),
-        b"length 64 range target 2 gain 3 309485009821345068724781056\nlength 256 input 1 over row 2 2147483648 2147483647\nlength 4096 input 0 slow row 5 8 9\n".as_slice()
+        no_length_lines(rt.alloc(), &lengths())?.as_slice(),
+        LENGTH_LINES
     );
     Ok(())
 }
