@@ -17,7 +17,8 @@ use Rattle.fx_lines.specs.declared.decimals.TheConstants.{PLACES}
 
 -- ---- gains
 
--- how far input i can drive output o: from lo / 2 ^ 64 to hi / 2 ^ 64, rounded outwards in the last place
+-- how far output o goes on words of input i alone: from lo / 2 ^ 64 to hi / 2 ^ 64, rounded outwards in the last
+-- place
 abbrev pub gain_line : ℕ → ℕ → Interval → List ℕ
 gain_line o i gain =
     codes "gain " ++ decimal o ++ codes " " ++ decimal i ++ codes " " ++ down_text gain.lo PLACES
@@ -27,7 +28,7 @@ gain_line o i gain =
 abbrev pub words_text : List ℤ → List ℕ
 words_text words = flat_map (λ w. codes " " ++ signed_decimal w) words
 
--- the words of input i that drive output o the furthest, in the order of time
+-- the words of input i on which output o reaches the low end, in the order of time
 abbrev pub worst_line : ℕ → ℕ → List ℤ → List ℕ
 worst_line o i words = codes "worst " ++ decimal o ++ codes " " ++ decimal i ++ words_text words ++ codes "\n"
 

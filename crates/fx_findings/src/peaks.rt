@@ -47,7 +47,7 @@ fn put_words(text: &mut Vec<u8>, words: &[i64]) -> Result<(), AllocError>
     Ok(())
 }
 
-// The words of an input that drive an output the furthest.
+// The words of an input on which an output reaches the low end of its gain.
 #[tactic(auto, using(crate::proofs::Joined::regrouped))]
 fn put_worst(
     text: &mut Vec<u8>,
@@ -63,7 +63,7 @@ fn put_worst(
     put_word(text, "\n")
 }
 
-// The gain from an input to an output, and the words of the input that drive the output the furthest.
+// The gain from an input to an output, and the words of the input on which the output reaches its low end.
 #[tactic(auto, using(crate::proofs::Joined::regrouped))]
 fn put_peak(
     text: &mut Vec<u8>,
@@ -97,8 +97,8 @@ fn put_output(
 }
 
 /// The lines of a filter's peak gains: for each output and in it for each input the ends of the gain, in input steps
-/// with nine places, rounded outwards in the last, and the words of the input that drive the output the furthest, in
-/// the order of time. The peaks are those of the filter.
+/// with nine places, rounded outwards in the last, and the words of the input on which the output reaches the low end,
+/// in the order of time. The peaks are those of the filter.
 pub fn gain_lines(alloc: Global, filter: &Filter, peaks: &Peaks) -> Result<Vec<u8>, AllocError>
     requires outputs { peaks.now.outputs ≡ length filter.now.outputs }
     requires inputs { peaks.now.inputs ≡ length filter.now.inputs }
