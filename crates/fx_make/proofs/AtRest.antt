@@ -9,7 +9,7 @@ use Rattle.fx_block.specs.Raising.{raise, first_row, Raises, ended, ended_by, ra
 use Rattle.fx_block.specs.Raising.Raises.{Rest, Over, Slow}
 
 -- no row passes a test of which none is told as the first
-none_passes : (n : ℕ) (test : ℕ → Bool) → first_row n test ≡ None → (j : ℕ) → j < n → test j ≡ false
+pub none_passes : (n : ℕ) (test : ℕ → Bool) → first_row n test ≡ None → (j : ℕ) → j < n → test j ≡ false
 none_passes zero test e j l = absurd (omega arith)
 none_passes (suc n) test e j l = by (λ f below. none_passes n test f j below) (first_row n test) refl (test n) refl
   where

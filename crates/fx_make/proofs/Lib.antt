@@ -1,6 +1,7 @@
 mod AtRest
 mod FirstLength
 mod FormatsOf
+mod GoingOn
 mod Listed
 mod MadeCertificates
 mod MadePrograms
@@ -10,6 +11,7 @@ mod Padding
 mod Places
 mod Ports
 mod SameRaises
+mod SearchingLengths
 mod Sweeps
 mod Telling
 mod Trials

@@ -1,5 +1,5 @@
 -- The certificate of a candidate that passes.
-use Rattle.std.proofs.Common.{◌≡◌, ℕ, ◌-◌, ◌*◌, ◌^◌, ◌<◌, ◌≤◌, List, take, length, All, arith, refl, sym, ap}
+use Rattle.std.proofs.Common.{◌≡◌, ℕ, ◌*◌, ◌^◌, ◌<◌, ◌≤◌, List, take, length, All, arith, refl, sym, ap}
 use Rattle.std.proofs.Common.{◌∙◌, unsigned_abs, inl, inr}
 use Rattle.std.proofs.Math.IntN.{ℤ, pos, ◌*ℤ◌}
 use Rattle.std.specs.Int.Signed.{◌≤ℤ◌}

@@ -17,7 +17,7 @@ use Rattle.fx_eqs.specs.Lags.{greatest_lag}
 use Rattle.fx_eqs.specs.declared.term.Source.TheVariants.{Row, In as Input}
 use Rattle.fx_eqs.specs.declared.term.Term.{Term}
 use Rattle.fx_net.specs.Net.{Net, empty_net}
-use Rattle.fx_net.specs.Rows.{AreEmpty, ReadFits, coefficient, coefficient_or, is_within, put_rows, reads_old, row_of}
+use Rattle.fx_net.specs.Rows.{AreEmpty, ReadFits, coefficient_or, is_within, put_rows, reads_old, row_of}
 use Rattle.fx_net.proofs.Empty.{new_rows_are_empty}
 use Rattle.fx_net.proofs.OtherRows.{other_rows_stay_empty}
 use Rattle.fx_net.proofs.Positions.{row_hold_end, row_inside, sum_within}

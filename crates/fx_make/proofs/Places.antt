@@ -57,7 +57,8 @@ behind_stays xs t x before k h =
 pub zeros : (n k : ℕ) → whole_in (replicate n (pos 0)) k ≡ pos 0
 zeros n k = elim (cases_lt k n) [
   | inl l ↦ get_or-replicate n k (pos 0) (pos 0) l
-  | inr r ↦ get_or_past (replicate n (pos 0)) k (pos 0) (let e = length-replicate {A = ℤ} n (pos 0) in omega (arith, e, r))
+  | inr r ↦ get_or_past (replicate n (pos 0)) k (pos 0) (let e = length-replicate {A = ℤ} n (pos 0) in
+      omega (arith, e, r))
 ]
 
 pub fits_more : (most : ℕ) (xs : List ℤ) (t : ℕ) (x : ℤ) → t < length xs → AreUpTo most xs → IsUpTo most x →

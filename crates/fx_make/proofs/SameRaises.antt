@@ -1,11 +1,10 @@
 -- Raises of the same bounds are the same, whatever the caps past the rows.
-use Rattle.std.proofs.Common.{◌≡◌, ◌⊎◌, ℕ, zero, suc, ◌<◌, arith, refl, ap, ap₂, sym, ◌∙◌, subst, inl, inr}
+use Rattle.std.proofs.Common.{◌≡◌, ℕ, zero, suc, ◌<◌, arith, refl, ap, ap₂, sym, ◌∙◌}
 use Rattle.std.proofs.Common.{cond, Bool, true, false, not, eqb, ltb}
 use Rattle.std.specs.Prelude.{Option, Some, None}
 use Rattle.std.specs.Option.{option_or}
-use mathlib.Core.Path.{fun_ext}
 use Rattle.fx_block.specs.Raising.{first_row, Raises, ended, ended_by, raises_by}
-use Rattle.fx_block.specs.Raising.Raises.{Rest, Over, Slow}
+use Rattle.fx_block.specs.Raising.Raises.{Over, Slow}
 
 -- the first row that passes a test is one of the rows
 pub first_inside : (n : ℕ) (test : ℕ → Bool) (j : ℕ) → first_row n test ≡ Some j → j < n

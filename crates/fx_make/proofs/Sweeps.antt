@@ -1,7 +1,7 @@
 -- What sweeps of the padded net tell of a candidate's rows.
-use Rattle.std.proofs.Common.{◌≡◌, ◌⊎◌, ℕ, zero, suc, ◌+◌, ◌-◌, ◌<◌, ◌≤◌, length, arith, refl, ap, ap₂, sym, ◌∙◌, subst}
-use Rattle.std.proofs.Common.{inl, inr, cond, replicate, get_or, List}
-use Rattle.std.proofs.Math.IntN.{ℤ, pos}
+use Rattle.std.proofs.Common.{◌≡◌, ℕ, zero, suc, ◌+◌, ◌<◌, ◌≤◌, length, arith, refl, ap, ap₂, sym, ◌∙◌, subst}
+use Rattle.std.proofs.Common.{inl, inr, replicate, get_or}
+use Rattle.std.proofs.Math.IntN.{pos}
 use Rattle.std.specs.Int.Signed.{◌≤ℤ◌}
 use Rattle.std.proofs.lemmas.Int.{ints}
 use Rattle.std.specs.Prelude.{Option, Some, None, option_map, unsigned_abs, ◌^◌}
@@ -17,7 +17,7 @@ use Rattle.fx_keys.specs.declared.key.Key.TheVariants as key
 use Rattle.fx_files.specs.Filter.{Filter}
 use Rattle.fx_files.specs.Fits.{FilterFits}
 use Rattle.fx_net.specs.Rows.{put_rows}
-use Rattle.fx_sweep.specs.Filled.{AreLeading, Filled, first_target_range, length_in, range_of_target, target_in}
+use Rattle.fx_sweep.specs.Filled.{Filled, first_target_range, length_in, target_in}
 use Rattle.fx_sweep.specs.Kept.{Kept, kept_total}
 use Rattle.fx_sweep.specs.Padding.{EmptyRowsChangeNothing, HasSameNumbers}
 use Rattle.fx_sweep.specs.Range.{first_range_in}
@@ -103,7 +103,8 @@ module _ (f : Filter) (d : Quantised) (kept : FilterFits f) (system : EquationsF
   each_length : (m t : ℕ) → t < target_count f d.rows →
       length_in (replicate (length (targets_of f d.rows)) m) t ≡ m
   each_length m t l =
-      get_or-replicate (length (targets_of f d.rows)) t m 0 (let count = targets_long f d.rows in omega (arith, l, count))
+      get_or-replicate (length (targets_of f d.rows)) t m 0
+      (let count = targets_long f d.rows in omega (arith, l, count))
 
   in_larger : (target : Target) → TargetFits (candidate_count f d.rows) target → TargetFits n target
   in_larger (Row t) h = omega (arith, room, h)

@@ -1,11 +1,11 @@
 -- What is told of the steps of a trial is told of the trial.
-use Rattle.std.proofs.Common.{◌≡◌, ◌⊎◌, ℕ, zero, suc, ◌+◌, ◌<◌, ◌≤◌, arith, refl, ap, ap₂, sym, ◌∙◌, subst, inl, inr}
+use Rattle.std.proofs.Common.{◌≡◌, ℕ, zero, suc, ◌+◌, ◌<◌, arith, refl, ap, ap₂, sym, ◌∙◌, subst, inl, inr}
 use Rattle.std.proofs.Common.{cond, Bool, true, false, List, length}
 use Rattle.std.proofs.Math.IntN.{ℤ, pos}
 use Rattle.std.specs.Int.Signed.{◌≤ℤ◌, ◌<ℤ◌}
 use Rattle.std.specs.Prelude.{Option, Some, None, int_le}
 use Rattle.std.specs.Option.{option_or}
-use Rattle.std.proofs.lemmas.Bool.{cases_eq, cases_lt}
+use Rattle.std.proofs.lemmas.Bool.{cases_lt}
 use Rattle.std.proofs.lemmas.Int.{ints}
 use Rattle.fx_files.specs.Filter.{Filter}
 use Rattle.fx_code.specs.Code.{BareRow}
@@ -20,7 +20,7 @@ use Rattle.fx_block.specs.Raising.Raises.{Rest, Over as OverCap, Slow as TooSlow
 use Rattle.fx_block.specs.Told.{Tells}
 use Rattle.fx_block.specs.declared.least.Least.{Least}
 use Rattle.fx_make.specs.Candidates.{trial_fail}
-use Rattle.fx_make.specs.Lengths.{TellsRaises, TellsTrial, above_fail, first_above_fail, length_fail, least_fail}
+use Rattle.fx_make.specs.Lengths.{TellsRaises, TellsTrial, above_fail, first_above_fail, least_fail}
 use Rattle.fx_make.specs.Lengths.{raises_of}
 use Rattle.fx_make.specs.declared.fail.Fail.{Fail}
 use Rattle.fx_make.specs.declared.fail.Fail.TheVariants.{Over, Range, Slow, Error}

@@ -1,5 +1,5 @@
 -- Candidates for a filter's code, in the order in which they are tried, and what becomes of each.
-use Rattle.std.specs.Prelude.{ℕ, ◌-◌, ℤ, pos, List, [], ◌∷◌, map, Option, Some, None, Result, Ok, Err}
+use Rattle.std.specs.Prelude.{ℕ, pos, List, [], ◌∷◌, map, Option, Some, None, Result, Ok, Err}
 use Rattle.std.specs.List.{flat_map}
 use Rattle.fx_math.specs.Faults.{◌>>=◌}
 use Rattle.fx_math.specs.Sums.{joined}
@@ -7,7 +7,6 @@ use Rattle.fx_eqs.specs.declared.limits.TheConstants.{PORTS}
 use Rattle.fx_files.specs.Filter.{Filter}
 use Rattle.fx_files.specs.Settings.{Settings}
 use Rattle.fx_sif.specs.Implicit.{Implicit}
-use Rattle.fx_sweep.specs.declared.target.TargetRange.{TargetRange}
 use Rattle.fx_block.specs.Candidate.{Trial, trial}
 use Rattle.fx_block.specs.Candidate.Trial.{Passed, OutOfRange, OverCap, TooSlow, AboveTarget}
 use Rattle.fx_block.specs.Formats.{output_at}
@@ -25,10 +24,12 @@ pub record Candidate : Type 0 where
   pub fraction : ℕ
   pub length : ℕ
 
+abbrev pub candidate_at : ℕ → ℕ → ℕ → Candidate
+candidate_at guard fraction length = record { guard = guard; fraction = fraction; length = length }
+
 -- guards outermost, then fractions, then lengths, each list in its own order
 abbrev pub of_fraction : List ℕ → ℕ → ℕ → List Candidate
-of_fraction lengths guard fraction =
-    map (λ l. record { guard = guard; fraction = fraction; length = l }) lengths
+of_fraction lengths guard fraction = map (candidate_at guard fraction) lengths
 
 abbrev pub of_guard : List ℕ → List ℕ → ℕ → List Candidate
 of_guard fractions lengths guard = flat_map (of_fraction lengths guard) fractions

@@ -1,5 +1,6 @@
 -- How the trial of a candidate's rows fails for a length, and the first length for which it does not.
-use Rattle.std.specs.Prelude.{◌≡◌, ℕ, ◌+◌, ◌<◌, nat_lt, cond, ℤ, pos, slice_index_or, List, length, Option, Some, None, is_none}
+use Rattle.std.specs.Prelude.{◌≡◌, ℕ, ◌+◌, ◌<◌, nat_lt, cond, ℤ, pos, slice_index_or, List, length, Option, Some}
+use Rattle.std.specs.Prelude.{None, is_none}
 use Rattle.fx_files.specs.Filter.{Filter}
 use Rattle.fx_code.specs.Code.{BareRow}
 use Rattle.fx_sweep.specs.Filled.{length_in}

@@ -1,6 +1,7 @@
 pub mod Candidates
 pub mod Designs
 pub mod Lengths
+pub mod Made
 pub mod Search
 pub mod Structures
 pub mod Targets

@@ -1,10 +1,8 @@
 -- The first candidate that passes, or the failure of each.
-use Rattle.std.specs.Prelude.{List, [], ◌∷◌, ◌++◌, Result, Ok, Err}
-use Rattle.fx_math.specs.Faults.{◌>>=◌}
+use Rattle.std.specs.Prelude.{List, [], ◌∷◌, ◌++◌, Option, Some, None, Result, Ok, Err}
 use Rattle.fx_files.specs.Filter.{Filter}
 use Rattle.fx_sif.specs.Implicit.{Implicit}
 use Rattle.fx_make.specs.Candidates.{Candidate, Passing, candidates, tried}
-use Rattle.fx_make.specs.Structures.{structure_form}
 use Rattle.fx_make.specs.declared.fail.Fail.{Fail}
 use Rattle.fx_make.specs.declared.fail.Failed.{Failed}
 
@@ -33,3 +31,10 @@ searched try p (c ∷ cs) = searched try (and_then try p c) cs
 -- all candidates of a filter whose structure has this form
 abbrev pub search : Filter → Implicit → Progress
 search f s = searched (tried f s) (AllFailed []) (candidates f.settings)
+
+-- ---- the failures of one candidate after the other
+
+-- of a candidate that fails
+abbrev pub failed_of : Candidate → Option Fail → List Failed
+failed_of c None = []
+failed_of c (Some why) = failed c why ∷ []

@@ -2,20 +2,26 @@
 //! design.
 #![tactic(auto)]
 
+mod answer;
 mod caps;
 mod fail;
 mod joint;
 mod lengths;
 mod made;
+#[cfg(test)]
+mod make_tests;
 mod quantising;
 mod refusal;
+mod searching;
 mod structure;
 mod targets;
 #[cfg(test)]
 mod tests;
 mod trying;
 
+pub use answer::{Fails, Made, MakeFault};
 pub use fail::{Fail, Failed};
 pub use refusal::StructureFault;
+pub use searching::make;
 pub use structure::build_structure;
 pub use trying::try_lengths;

@@ -11,6 +11,7 @@ ghost use Rattle.fx_quant.specs.Quantised.{
   is_memory,
   quantised,
 };
+ghost use Rattle.fx_sif.specs.Implicit.{rows};
 ghost use Rattle.fx_make.specs.Candidates.{formats_of};
 ghost use Rattle.fx_make.specs.Designs.{AreRowsOf};
 ghost use Rattle.fx_make.specs.Structures.{HasFewEntries, HasPorts};
@@ -65,6 +66,7 @@ pub fn quantised_design(
     ensures value { Gives is_memory (λ d. d) result
         (quantised form.now (formats_of f.now) (equal_guards form.now guard) fraction) }
     ensures rows { IfOk result (AreRowsOf f.now) }
+    ensures count { IfOk result (λ d. length d.rows ≡ rows form.now.sizes) }
 {
     filters_fit(f);
     quantise(alloc, form, formats(f), guard, fraction)

@@ -1,6 +1,6 @@
 //! Whether a candidate's rows pass for one of the lengths of a filter.
 
-ghost use Rattle.std.specs.Prelude.{◌≡◌, ◌≢◌, ℕ, ◌+◌, ◌*◌, ◌<◌, ◌≤◌, length, Some};
+ghost use Rattle.std.specs.Prelude.{◌≡◌, ◌≢◌, ℕ, ◌+◌, ◌*◌, ◌<◌, ◌≤◌, length, None, Some};
 ghost use Rattle.fx_net.specs.Tables.{net_of};
 ghost use Rattle.fx_sweep.specs.Filled.{length_in};
 ghost use Rattle.fx_sweep.specs.Kept.{AreBounds, bound_in};
@@ -41,6 +41,7 @@ fn try_length<const N: usize>(
     ensures count { length x.new ≡ length x.old }
     ensures spare { length scratch.new ≡ length scratch.old }
     ensures errors { length e.new ≡ length e.old }
+    ensures fits { result ≡ None → AreBounds x.new }
     ensures told { TellsTrial f.now d.now.rows (length_in f.now.settings.lengths l) result (bound_in x.new)
         (whole_in e.new) }
 {
@@ -121,6 +122,7 @@ pub fn try_lengths<const N: usize>(
     ensures told { (l : ℕ) → fail_in fails.new l ≡ fail_at f.now d.now.rows result l }
     ensures found { (l : ℕ) → result ≡ Some l →
         HasPassing f.now d.now.rows (length_in f.now.settings.lengths l) (bound_in x.new) (whole_in e.new) }
+    ensures fits { (l : ℕ) → result ≡ Some l → AreBounds x.new }
     ensures series { IsSeries series.new (net_of net.now) (targets_of f.now d.now.rows) f.now.settings.lengths }
     ensures made { (most : ℕ) → AreUpToLength most f.now.settings.lengths →
         sweep.new.made ≤ sweep.old.made + target_count f.now d.now.rows * most }

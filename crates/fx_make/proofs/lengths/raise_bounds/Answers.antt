@@ -1,4 +1,4 @@
-use Rattle.std.proofs.Common.{◌≡◌, ◌≤◌, ap, sym, ◌∙◌, subst, arith, length, replicate}
+use Rattle.std.proofs.Common.{◌≡◌, subst, arith, length, replicate}
 use Rattle.fx_eqs.specs.Fits.{EquationsFit}
 use Rattle.fx_sweep.specs.Filled.{length_in}
 use Rattle.fx_sweep.specs.Kept.{bound_in}
@@ -22,12 +22,12 @@ returns-clause-told g c m filled =
     let x = bound_in c.least_bounds.new.x in
     let system : EquationsFit f.equations = subst EquationsFit c.eqs.ensures.value c.systems_fit.ensures in
     let leading : k.leading ≡ candidate_count f d.rows =
-    leading_is f d c.filters_fit.ensures system c.requires.rows c.empty_rows_change_nothing.ensures g.row.N c.requires.room
-    k m filled in
+    leading_is f d c.filters_fit.ensures system c.requires.rows c.empty_rows_change_nothing.ensures g.row.N
+    c.requires.room k m filled in
     let same : least_by_raises (padded_net g.row.N f d.rows) k.leading (length_in lengths) (bound_of f) caps
     ≡ raises_of f d.rows m =
-    raises_are f d c.filters_fit.ensures system c.requires.rows c.empty_rows_change_nothing.ensures g.row.N c.requires.room
-    k m filled caps c.caps-caps.ensures.value in
+    raises_are f d c.filters_fit.ensures system c.requires.rows c.empty_rows_change_nothing.ensures g.row.N
+    c.requires.room k m filled caps c.caps-caps.ensures.value in
     let end = c.least_bounds.ensures.end (padded_net g.row.N f d.rows) (targets_of f d.rows) lengths filled
     (let room = c.requires.room in omega (arith, leading, room)) in
     let bounded : Tells (least_by_raises (padded_net g.row.N f d.rows) k.leading (length_in lengths) (bound_of f) caps)

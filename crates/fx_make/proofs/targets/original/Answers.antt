@@ -13,7 +13,8 @@ pub overflow_cast-result : goal.overflow_cast-result
 overflow_cast-result c =
     let system : EquationsFit c.args.f.now.equations =
     subst EquationsFit c.eqs-eqs.ensures.value c.systems_fit.ensures in
-    let inside = original_inside c.args.f.now c.args.d.now.rows c.filters_fit.ensures system c.args.o c.requires.output in
+    let inside = original_inside c.args.f.now c.args.d.now.rows c.filters_fit.ensures system c.args.o
+    c.requires.output in
     let row : c.output.result.row ≡ (output_at c.args.f.now c.args.o).row =
     ap (λ (format : OutputFormat). format.row) c.output.ensures.value in
     let place : c.first_row.result ≡ row_place c.args.f.now.equations 0 =

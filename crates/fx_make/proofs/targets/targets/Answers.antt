@@ -1,4 +1,4 @@
-use Rattle.std.proofs.Common.{◌≡◌, ◌<◌, ◌∙◌, length, length-set, arith}
+use Rattle.std.proofs.Common.{◌<◌, ◌∙◌, length, length-set, arith}
 use Rattle.fx_make.specs.Targets.{target_at}
 use Rattle.fx_make.proofs.Places.{listed_more}
 use Rattle.fx_make.proofs.targets.targets.Goals as goal
@@ -8,6 +8,7 @@ loop-t-preserved c =
     let inside : c.loop-t.t < length c.loop-t.targets = omega arith in
     record {
       long = length-set c.loop-t.targets c.loop-t.t c.target.result ∙ c.loop-t.invariant.long;
-      first = listed_more c.loop-t.targets c.loop-t.t (target_at c.args.f.now c.args.d.now.rows) c.target.result inside c.loop-t.invariant.first
+      first = listed_more c.loop-t.targets c.loop-t.t (target_at c.args.f.now c.args.d.now.rows) c.target.result
+          inside c.loop-t.invariant.first
           c.target.ensures;
     }

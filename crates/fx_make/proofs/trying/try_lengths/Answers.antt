@@ -1,5 +1,5 @@
 use Rattle.std.proofs.Common.{rules, ◌≡◌, ℕ, ◌<◌, true, false, ap, sym, ◌∙◌, subst, arith, length}
-use Rattle.std.specs.Prelude.{None, Some, is_none}
+use Rattle.std.specs.Prelude.{None, is_none}
 use Rattle.fx_sweep.specs.Filled.{length_in}
 use Rattle.fx_sweep.specs.Kept.{bound_in}
 use Rattle.fx_sweep.specs.Swept.{whole_in}
