@@ -23,6 +23,7 @@ use Rattle.fx_sim.specs.declared.fault.SampleFault.{SampleFault}
 use Rattle.fx_tool.specs.Answer.{Answer, absent, Delivers}
 use Rattle.fx_tool.specs.Check.{certified, code_plan, filter_plan}
 use Rattle.fx_tool.specs.Command.{Command, command_of}
+use Rattle.fx_tool.specs.Gain.{by_serving, gained, gains, serving}
 use Rattle.fx_tool.specs.Judgement.{by_failure, judged, reported, told}
 use Rattle.fx_tool.specs.Operand.{limit_of, too_long}
 use Rattle.fx_tool.specs.Plan.{Plan, Ends, Reads, by_content, answer_by, OfAnswer}
@@ -33,7 +34,7 @@ use Rattle.fx_tool.specs.Simulate.{outputs, samples_plan}
 use Rattle.fx_tool.specs.Status.{is_spoken}
 use Rattle.fx_tool.specs.Writing.{GrowsBy}
 use Rattle.fx_tool.specs.declared.command.Verb.{Verb}
-use Rattle.fx_tool.specs.declared.command.Verb.TheVariants.{Check, Report, Show, Simulate}
+use Rattle.fx_tool.specs.declared.command.Verb.TheVariants.{Check, Gain, Report, Show, Simulate}
 use Rattle.fx_tool.specs.declared.judgement.Detail.{Detail}
 use Rattle.fx_tool.specs.declared.judgement.Detail.TheVariants.{Brief, Full}
 use Rattle.fx_tool.specs.declared.operand.Operand.{Operand}
@@ -93,8 +94,21 @@ filter_spoken : (detail : Detail) (r : Result Filter FilterFault) → AllSpoken 
 filter_spoken detail (Ok f) = λ code. code_spoken detail f (code_in code)
 filter_spoken detail (Err fault) = record { status = refl; placed = refl }
 
+serving_spoken : (f : Filter) (m : Option ℕ) → IsSpoken (by_serving f m)
+serving_spoken f (Some m) = record { status = refl; placed = refl }
+serving_spoken f None = record { status = refl; placed = refl }
+
+gains_spoken : (f : Filter) → IsSpoken (gains f)
+unfolding gains
+gains_spoken f = serving_spoken f (serving f)
+
+gained_spoken : (r : Result Filter FilterFault) → IsSpoken (gained r)
+gained_spoken (Ok f) = gains_spoken f
+gained_spoken (Err fault) = record { status = refl; placed = refl }
+
 verb_spoken : (v : Verb) → AllSpoken (plan_of v)
 verb_spoken Check = λ bytes. filter_spoken Brief (filter_of_bytes bytes)
+verb_spoken Gain = λ bytes. gained_spoken (filter_of_bytes bytes)
 verb_spoken Report = λ bytes. filter_spoken Full (filter_of_bytes bytes)
 verb_spoken Show = λ bytes. shown_spoken (filter_of_bytes bytes)
 verb_spoken Simulate = λ bytes. samples_spoken (code_in bytes)

@@ -25,6 +25,8 @@ use Rattle.fx_block.specs.Failure.{Failure, first_failure, form_failure, range_f
 use Rattle.fx_block.specs.Sound.{IsSound}
 use Rattle.fx_check.specs.Report.{known_parts, parts_of, parts_unless}
 use Rattle.fx_error.specs.declared.parts.Parts.{Parts}
+use Rattle.fx_gain.specs.Enclosing.{enclosure, worst_words}
+use Rattle.fx_gain.specs.Lengths.{original_net}
 use Rattle.fx_lines.specs.Filter.{filter_lines}
 use Rattle.fx_lines.specs.Report.{report_lines}
 use Rattle.fx_lines.specs.Verdict.{accepted_lines}
@@ -32,6 +34,7 @@ use Rattle.fx_tool.specs.Answer.{Answer, absent, Delivers}
 use Rattle.fx_tool.specs.Check.{certified, check_plan, code_plan, filter_plan, Headline}
 use Rattle.fx_tool.specs.Check.{CertificateIsSound, CodeIsSound, FilterIsSound, FilesAreSound}
 use Rattle.fx_tool.specs.Command.{Command, command_of, operands_of}
+use Rattle.fx_tool.specs.Gain.{by_serving, gained, gains, gains_text, serving, BytesEnclose, Gains, GainsEnclose}
 use Rattle.fx_tool.specs.Judgement.{by_failure, judged, parts_text, passing_lines, reported, told}
 use Rattle.fx_tool.specs.Operand.{limit_of, too_long}
 use Rattle.fx_tool.specs.Plan.{Plan, Ends, Reads, by_content, answer_by, OfAnswer}
@@ -41,7 +44,7 @@ use Rattle.fx_tool.specs.Show.{shown, Shows}
 use Rattle.fx_tool.specs.Simulate.{outputs, samples_plan, Simulates}
 use Rattle.fx_tool.specs.Writing.{GrowsBy}
 use Rattle.fx_tool.specs.declared.command.Verb.{Verb}
-use Rattle.fx_tool.specs.declared.command.Verb.TheVariants.{Check, Report, Show, Simulate}
+use Rattle.fx_tool.specs.declared.command.Verb.TheVariants.{Check, Gain, Report, Show, Simulate}
 use Rattle.fx_tool.specs.declared.judgement.Detail.{Detail}
 use Rattle.fx_tool.specs.declared.judgement.Detail.TheVariants.{Brief, Full}
 use Rattle.fx_tool.specs.declared.operand.Operand.{Operand}
@@ -342,12 +345,61 @@ report_done law files names before after h sound grows =
     (headline law Full files names (answer_by (operands_of Report) names (plan_of Report) files) before after j shown
     grows)
 
+-- ---- `gain`
+
+serving_done : (f : Filter) (m : Option ℕ) → (by_serving f m).status ≡ Done →
+    (l : ℕ) × (m ≡ Some l) × ((by_serving f m).text ≡ gains_text f l)
+serving_done f (Some m) h = (m, refl, refl)
+serving_done f None h = cc
+
+gains_done : (f : Filter) → (gains f).status ≡ Done →
+    (m : ℕ) × (serving f ≡ Some m) × ((gains f).text ≡ gains_text f m)
+unfolding gains
+gains_done f h = serving_done f (serving f) h
+
+record IsGained (r : Result Filter FilterFault) : Type 0 where
+  filter : Filter
+  moments : ℕ
+  read : r ≡ Ok filter
+  serves : serving filter ≡ Some moments
+  text : (gained r).text ≡ gains_text filter moments
+
+gained_done : (r : Result Filter FilterFault) → (gained r).status ≡ Done → IsGained r
+gained_done (Ok f) h =
+    let (m, serves, text) = gains_done f h in
+    record { filter = f; moments = m; read = refl; serves = serves; text = text }
+gained_done (Err fault) h = cc
+
+gain_done : (files : Files) (names : List (List ℕ)) (before after : Option (List ℕ)) →
+    (answer_by (operands_of Gain) names (plan_of Gain) files).status ≡ Done → Establishes Gain names (Some files)
+    → GrowsBy (answer_by (operands_of Gain) names (plan_of Gain) files).text before after →
+    Claims Gain names files before after
+gain_done files names before after h shown grows =
+    let file = is_read operand.Filter [] names (λ bytes. Ends (gained (filter_of_bytes bytes))) files h in
+    let found = gained_done (filter_of_bytes file.bytes) (along _ _ file.same h) in
+    let told = subst (λ (names : List (List ℕ)). Establishes Gain names (Some files)) file.is shown in
+    let encloses : GainsEnclose found.filter =
+    of_value (filter_of_bytes file.bytes) found.filter GainsEnclose found.read
+    (of_file (get files file.name) file.bytes BytesEnclose file.there told) in
+    let claim : Gains files file.name before after = record {
+      filter = found.filter;
+      interval = enclosure (original_net found.filter) found.filter found.moments;
+      words = worst_words (original_net found.filter) found.filter found.moments;
+      described = there (get files file.name) file.bytes (λ bytes. IsFileOf bytes found.filter) file.there
+          ((file_law file.bytes found.filter).0 found.read);
+      encloses = encloses found.moments found.serves;
+      printed = subst (λ (t : List ℕ). GrowsBy t before after)
+          (ap (λ (a : Answer). a.text) file.same ∙ found.text) grows;
+    } in
+    subst (λ (names : List (List ℕ)). Claims Gain names files before after) (sym file.is) claim
+
 -- ---- each command
 
 verb_done : CertificateLaw → (v : Verb) (names : List (List ℕ)) (files : Files) (before after : Option (List ℕ)) →
     (answer_by (operands_of v) names (plan_of v) files).status ≡ Done → Establishes v names (Some files)
     → GrowsBy (answer_by (operands_of v) names (plan_of v) files).text before after → Claims v names files before after
 verb_done law Check names files before after h shown grows = check_done law files names before after h shown grows
+verb_done law Gain names files before after h shown grows = gain_done files names before after h shown grows
 verb_done law Report names files before after h shown grows = report_done law files names before after h shown grows
 verb_done law Show names files before after h shown grows = show_done files names before after h grows
 verb_done law Simulate names files before after h shown grows = simulate_done files names before after h grows

@@ -7,7 +7,7 @@ use Rattle.std.specs.Str.{bytes_eq}
 use Rattle.fx_tool.specs.declared.command.Command as declared
 use Rattle.fx_tool.specs.declared.command.TheConstants.{VERBS}
 use Rattle.fx_tool.specs.declared.command.Verb.{Verb}
-use Rattle.fx_tool.specs.declared.command.Verb.TheVariants.{Check, Report, Show, Simulate}
+use Rattle.fx_tool.specs.declared.command.Verb.TheVariants.{Check, Gain, Report, Show, Simulate}
 use Rattle.fx_tool.specs.declared.operand.Operand.{Operand}
 use Rattle.fx_tool.specs.declared.operand.Operand.TheVariants.{Filter, Code, Certificate, Samples}
 
@@ -16,6 +16,7 @@ use Rattle.fx_tool.specs.declared.operand.Operand.TheVariants.{Filter, Code, Cer
 -- its word
 abbrev pub word_of : Verb → List ℕ
 word_of Check = codes "check"
+word_of Gain = codes "gain"
 word_of Report = codes "report"
 word_of Show = codes "show"
 word_of Simulate = codes "simulate"
@@ -23,6 +24,7 @@ word_of Simulate = codes "simulate"
 -- and what it reads
 abbrev pub operands_of : Verb → List Operand
 operands_of Check = Filter ∷ Code ∷ Certificate ∷ []
+operands_of Gain = Filter ∷ []
 operands_of Report = Filter ∷ Code ∷ Certificate ∷ []
 operands_of Show = Filter ∷ []
 operands_of Simulate = Code ∷ Samples ∷ []

@@ -3,6 +3,7 @@ pub mod Check
 pub mod CheckCauses
 pub mod Command
 pub mod Ending
+pub mod Gain
 pub mod Judgement
 pub mod Operand
 pub mod Plan

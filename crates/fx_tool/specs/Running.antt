@@ -9,12 +9,13 @@ use Rattle.fx_io.specs.declared.shelf.IoFault.{IoFault}
 use Rattle.fx_tool.specs.Answer.{Answer, says, Delivers}
 use Rattle.fx_tool.specs.Check.{check_plan, FilesAreSound, Headline}
 use Rattle.fx_tool.specs.Command.{Command, command_of, operands_of}
+use Rattle.fx_tool.specs.Gain.{gain_plan, FileEncloses, Gains}
 use Rattle.fx_tool.specs.Plan.{Plan, Ends, answer_by, plan_calls, Follows, MayRead, OfAnswer, WhereTold}
 use Rattle.fx_tool.specs.Show.{show_plan, Shows}
 use Rattle.fx_tool.specs.Simulate.{simulate_plan, Simulates}
 use Rattle.fx_tool.specs.Status.{IsBuiltStatus}
 use Rattle.fx_tool.specs.declared.command.Verb.{Verb}
-use Rattle.fx_tool.specs.declared.command.Verb.TheVariants.{Check, Report, Show, Simulate}
+use Rattle.fx_tool.specs.declared.command.Verb.TheVariants.{Check, Gain, Report, Show, Simulate}
 use Rattle.fx_tool.specs.declared.judgement.Detail.TheVariants.{Brief, Full}
 use Rattle.fx_tool.specs.declared.operand.Operand.{Operand}
 use Rattle.fx_tool.specs.declared.status.Status.{Status}
@@ -24,6 +25,7 @@ use Rattle.fx_tool.specs.declared.status.Status.TheVariants.{Done, Usage, ReadFa
 
 abbrev pub plan_of : Verb → Plan
 plan_of Check = check_plan Brief
+plan_of Gain = gain_plan
 plan_of Report = check_plan Full
 plan_of Show = show_plan
 plan_of Simulate = simulate_plan
@@ -31,12 +33,14 @@ plan_of Simulate = simulate_plan
 -- what its code shows of the files of these names beside the answer, where that is status 0
 abbrev pub Establishes : Verb → List (List ℕ) → Option Files → Type 0
 Establishes Check (filter ∷ code ∷ cert ∷ _) told = FilesAreSound told filter code cert
+Establishes Gain (filter ∷ _) told = FileEncloses told filter
 Establishes Report (filter ∷ code ∷ cert ∷ _) told = FilesAreSound told filter code cert
 Establishes _ _ told = ⊤
 
 -- what status 0 claims, of the files of these names and of the bytes before and after
 abbrev pub Claims : Verb → List (List ℕ) → Files → Option (List ℕ) → Option (List ℕ) → Type 0
 Claims Check (filter ∷ code ∷ cert ∷ _) files before after = Headline Brief files filter code cert before after
+Claims Gain (filter ∷ _) files before after = Gains files filter before after
 Claims Report (filter ∷ code ∷ cert ∷ _) files before after = Headline Full files filter code cert before after
 Claims Show (filter ∷ _) files before after = Shows files filter before after
 Claims Simulate (code ∷ samples ∷ _) files before after = Simulates files code samples before after

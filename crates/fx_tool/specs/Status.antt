@@ -29,6 +29,7 @@ is_spoken BadFilter = true
 is_spoken BadCode = true
 is_spoken BadCertificate = true
 is_spoken BadSamples = true
+is_spoken NoDesign = true
 is_spoken TooLong = true
 is_spoken _ = false
 

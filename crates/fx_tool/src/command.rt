@@ -21,6 +21,8 @@ use crate::operand::Operand;
 pub enum Verb {
     /// Judges a filter, a program and a certificate.
     Check,
+    /// Finds the peak gains of a filter.
+    Gain,
     /// Judges them, and tells what the errors are made of.
     Report,
     /// Shows a filter.
@@ -30,7 +32,7 @@ pub enum Verb {
 }
 
 /// Each command.
-pub const VERBS: [Verb; 4] = [Verb::Check, Verb::Report, Verb::Show, Verb::Simulate];
+pub const VERBS: [Verb; 5] = [Verb::Check, Verb::Gain, Verb::Report, Verb::Show, Verb::Simulate];
 
 impl Verb {
     /// Its word on the command line.
@@ -39,6 +41,7 @@ impl Verb {
     {
         match self {
             Verb::Check => "check",
+            Verb::Gain => "gain",
             Verb::Report => "report",
             Verb::Show => "show",
             Verb::Simulate => "simulate",
@@ -53,7 +56,7 @@ impl Verb {
             Verb::Check | Verb::Report => {
                 &[Operand::Filter, Operand::Code, Operand::Certificate]
             }
-            Verb::Show => &[Operand::Filter],
+            Verb::Gain | Verb::Show => &[Operand::Filter],
             Verb::Simulate => &[Operand::Code, Operand::Samples],
         }
     }

@@ -6,6 +6,7 @@ ghost use Rattle.std.specs.Prelude.{◌≡◌};
 mod check;
 mod command;
 mod ending;
+mod gain;
 mod judgement;
 mod operand;
 mod reading;

@@ -23,6 +23,7 @@ ghost use Rattle.fx_tool.specs.Running.{
 use crate::check::check;
 use crate::command::{Verb, command_of};
 use crate::ending::Ending;
+use crate::gain::gain;
 use crate::judgement::Detail;
 use crate::show::show;
 use crate::simulate::simulate;
@@ -54,6 +55,7 @@ fn command_ending<S: Shelf>(
         (Verb::Check, [filter, code, cert]) => {
             check(alloc, Detail::Brief, filter.as_str(), code.as_str(), cert.as_str(), shelf)
         }
+        (Verb::Gain, [filter]) => gain(alloc, filter.as_str(), shelf),
         (Verb::Report, [filter, code, cert]) => {
             check(alloc, Detail::Full, filter.as_str(), code.as_str(), cert.as_str(), shelf)
         }

@@ -315,7 +315,7 @@ fn other_words_are_no_command(rt: HostRuntime) -> Result<(), Fail> {
         ["fixif", "show"].as_slice(),
         &["fixif", "show", "-f"],
         &["fixif", "show", "f", "f"],
-        &["fixif", "gain", "f"],
+        &["fixif", "large", "1"],
         &[],
     ] {
         assert_eq!(rt; first_wrong(rt.alloc(), words, &table)?, None);

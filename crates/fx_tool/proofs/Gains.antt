@@ -1,0 +1,78 @@
+-- What is found over the first listed length that serves, and that each listed length fails.
+use Rattle.std.proofs.Common.{◌≡◌, ◌∙◌, ℕ, zero, suc, ◌+◌, ◌<◌, ◌++◌, ℤ, arith, List, [], ◌∷◌, length, map, codes, Option}
+use Rattle.std.proofs.Common.{Some, None, refl, sym, ap, ap₂, subst, add-one}
+use Rattle.fx_math.specs.Sums.{joined}
+use Rattle.fx_net.specs.Net.{Net}
+use Rattle.fx_nums.specs.Interval.{Interval}
+use Rattle.fx_files.specs.Filter.{Filter}
+use Rattle.fx_gain.specs.Enclosing.{enclosure, worst_words}
+use Rattle.fx_gain.specs.Lengths.{first_serving, length_failure, original_net, serving_or}
+use Rattle.fx_gain.specs.Peak.{EnclosesPeak}
+use Rattle.fx_gain.specs.Peaks.{PeakValues, ArePeaks, EachFails, EnclosePeaks, interval_of, words_of}
+use Rattle.fx_gain.specs.declared.fails.LengthFail.{LengthFail}
+use Rattle.fx_findings.specs.Peaks.{gain_lines, peak_lines}
+use Rattle.fx_tool.specs.Answer.{Answer, says}
+use Rattle.fx_tool.specs.Gain.{by_serving, fails_text, gains, gains_text, serving, GainsEnclose}
+use Rattle.fx_tool.specs.declared.status.Status.TheVariants.{Done, NoDesign}
+
+-- ---- the same lines of the same numbers
+
+joined_same : {A : Type 0} (n : ℕ) (f g : ℕ → List A) → ((i : ℕ) → i < n → f i ≡ g i) → joined n f ≡ joined n g
+joined_same zero f g same = refl
+joined_same (suc n) f g same =
+    ap₂ (λ a b. a ++ b) (joined_same n f g (λ i l. same i (omega (arith, l)))) (same n (omega arith))
+
+lines_same : (outputs inputs : ℕ) (a b : ℕ → ℕ → Interval) (v w : ℕ → ℕ → List ℤ) →
+    ((o i : ℕ) → o < outputs → i < inputs → a o i ≡ b o i) →
+    ((o i : ℕ) → o < outputs → i < inputs → v o i ≡ w o i) →
+    gain_lines outputs inputs a v ≡ gain_lines outputs inputs b w
+lines_same outputs inputs a b v w intervals words =
+    joined_same outputs (λ o. joined inputs (λ i. peak_lines o i (a o i) (v o i)))
+    (λ o. joined inputs (λ i. peak_lines o i (b o i) (w o i))) (λ o lo.
+    joined_same inputs (λ i. peak_lines o i (a o i) (v o i)) (λ i. peak_lines o i (b o i) (w o i)) (λ i li.
+    ap₂ (peak_lines o i) (intervals o i lo li) (words o i lo li)))
+
+pub one_more : (text before : List ℕ) (o n : ℕ) (a : ℕ → ℕ → Interval) (v : ℕ → ℕ → List ℤ) →
+    before ≡ gain_lines o n a v → text ≡ before ++ joined n (λ i. peak_lines o i (a o i) (v o i)) →
+    text ≡ gain_lines (o + 1) n a v
+one_more text before o n a v h step =
+    step ∙ ap (λ t. t ++ joined n (λ i. peak_lines o i (a o i) (v o i))) h
+    ∙ ap (λ m. gain_lines m n a v) (sym (add-one o))
+
+pub peaks_found : (f : Filter) (p : PeakValues) → ArePeaks (original_net f) f p →
+    gains f ≡ says Done (gain_lines (length f.outputs) (length f.inputs) (interval_of p) (words_of p))
+unfolding gains
+peaks_found f p h =
+    ap (by_serving f) h.serves
+    ∙ ap (says Done) (sym (lines_same (length f.outputs) (length f.inputs) (interval_of p)
+    (enclosure (original_net f) f p.moments) (words_of p) (worst_words (original_net f) f p.moments)
+    h.intervals_are h.words_are))
+
+-- ---- where each length fails, none serves
+
+none_serves : (net : Net) (f : Filter) (ms : List ℕ) (fails : List LengthFail) →
+    map (length_failure net f) ms ≡ map Some fails → first_serving net f ms ≡ None
+none_serves net f [] fails h = refl
+none_serves net f (m ∷ ms) [] h = cc
+none_serves net f (m ∷ ms) (x ∷ xs) h =
+    let here : length_failure net f m ≡ Some x = cc in
+    let later : map (length_failure net f) ms ≡ map Some xs = cc in
+    ap (λ failure. serving_or m failure (first_serving net f ms)) here ∙ none_serves net f ms xs later
+
+pub none_found : (f : Filter) (fails : List LengthFail) → EachFails (original_net f) f fails →
+    gains f ≡ says NoDesign (fails_text (map Some fails))
+unfolding gains
+none_found f fails h =
+    ap (by_serving f) (none_serves (original_net f) f f.settings.lengths fails h)
+    ∙ ap (λ failures. says NoDesign (fails_text failures)) h
+
+-- ---- the enclosures
+
+pub peaks_enclose : (f : Filter) (p : PeakValues) → ArePeaks (original_net f) f p → EnclosePeaks f p → GainsEnclose f
+peaks_enclose f p are h m serves o i lo li =
+    let both : Some p.moments ≡ Some m = sym are.serves ∙ serves in
+    let same : p.moments ≡ m = cc in
+    let interval = subst (λ v. EnclosesPeak f o i v (words_of p o i)) (are.intervals_are o i lo li) (h o i lo li) in
+    let words = subst (λ w. EnclosesPeak f o i (enclosure (original_net f) f p.moments o i) w)
+    (are.words_are o i lo li) interval in
+    subst (λ m. EnclosesPeak f o i (enclosure (original_net f) f m o i) (worst_words (original_net f) f m o i)) same words
