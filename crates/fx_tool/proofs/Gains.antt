@@ -1,6 +1,7 @@
 -- What is found over the first listed length that serves, and that each listed length fails.
 use Rattle.std.proofs.Common.{◌≡◌, ◌∙◌, ℕ, zero, suc, ◌+◌, ◌<◌, ◌++◌, ℤ, arith, List, [], ◌∷◌, length, map, codes, Option}
-use Rattle.std.proofs.Common.{Some, None, refl, sym, ap, ap₂, subst, add-one}
+use Rattle.std.proofs.Common.{Some, None, refl, sym, ap, ap₂, subst}
+use Rattle.std.proofs.lemmas.List.Folds.{flat_map-map}
 use Rattle.fx_math.specs.Sums.{joined}
 use Rattle.fx_net.specs.Net.{Net}
 use Rattle.fx_nums.specs.Interval.{Interval}
@@ -10,9 +11,9 @@ use Rattle.fx_gain.specs.Lengths.{first_serving, length_failure, original_net, s
 use Rattle.fx_gain.specs.Peak.{EnclosesPeak}
 use Rattle.fx_gain.specs.Peaks.{PeakValues, ArePeaks, EachFails, EnclosePeaks, interval_of, words_of}
 use Rattle.fx_gain.specs.declared.fails.LengthFail.{LengthFail}
-use Rattle.fx_findings.specs.Peaks.{gain_lines, peak_lines}
+use Rattle.fx_findings.specs.Peaks.{gain_lines, no_length_lines, peak_lines}
 use Rattle.fx_tool.specs.Answer.{Answer, says}
-use Rattle.fx_tool.specs.Gain.{by_serving, fails_text, gains, gains_text, serving, GainsEnclose}
+use Rattle.fx_tool.specs.Gain.{all_lines, by_serving, fail_text, fails_text, gains, gains_text, serving, GainsEnclose}
 use Rattle.fx_tool.specs.declared.status.Status.TheVariants.{Done, NoDesign}
 
 -- ---- the same lines of the same numbers
@@ -25,28 +26,23 @@ joined_same (suc n) f g same =
 lines_same : (outputs inputs : ℕ) (a b : ℕ → ℕ → Interval) (v w : ℕ → ℕ → List ℤ) →
     ((o i : ℕ) → o < outputs → i < inputs → a o i ≡ b o i) →
     ((o i : ℕ) → o < outputs → i < inputs → v o i ≡ w o i) →
-    gain_lines outputs inputs a v ≡ gain_lines outputs inputs b w
+    all_lines outputs inputs a v ≡ all_lines outputs inputs b w
 lines_same outputs inputs a b v w intervals words =
     joined_same outputs (λ o. joined inputs (λ i. peak_lines o i (a o i) (v o i)))
     (λ o. joined inputs (λ i. peak_lines o i (b o i) (w o i))) (λ o lo.
     joined_same inputs (λ i. peak_lines o i (a o i) (v o i)) (λ i. peak_lines o i (b o i) (w o i)) (λ i li.
     ap₂ (peak_lines o i) (intervals o i lo li) (words o i lo li)))
 
-pub one_more : (text before : List ℕ) (o n : ℕ) (a : ℕ → ℕ → Interval) (v : ℕ → ℕ → List ℤ) →
-    before ≡ gain_lines o n a v → text ≡ before ++ joined n (λ i. peak_lines o i (a o i) (v o i)) →
-    text ≡ gain_lines (o + 1) n a v
-one_more text before o n a v h step =
-    step ∙ ap (λ t. t ++ joined n (λ i. peak_lines o i (a o i) (v o i))) h
-    ∙ ap (λ m. gain_lines m n a v) (sym (add-one o))
-
 pub peaks_found : (f : Filter) (p : PeakValues) → ArePeaks (original_net f) f p →
-    gains f ≡ says Done (gain_lines (length f.outputs) (length f.inputs) (interval_of p) (words_of p))
+    gains f ≡ says Done (gain_lines p)
 unfolding gains
 peaks_found f p h =
     ap (by_serving f) h.serves
     ∙ ap (says Done) (sym (lines_same (length f.outputs) (length f.inputs) (interval_of p)
     (enclosure (original_net f) f p.moments) (words_of p) (worst_words (original_net f) f p.moments)
     h.intervals_are h.words_are))
+    ∙ ap₂ (λ outputs inputs. says Done (all_lines outputs inputs (interval_of p) (words_of p)))
+    (sym h.outputs_are) (sym h.inputs_are)
 
 -- ---- where each length fails, none serves
 
@@ -60,11 +56,12 @@ none_serves net f (m ∷ ms) (x ∷ xs) h =
     ap (λ failure. serving_or m failure (first_serving net f ms)) here ∙ none_serves net f ms xs later
 
 pub none_found : (f : Filter) (fails : List LengthFail) → EachFails (original_net f) f fails →
-    gains f ≡ says NoDesign (fails_text (map Some fails))
+    gains f ≡ says NoDesign (no_length_lines fails)
 unfolding gains
 none_found f fails h =
     ap (by_serving f) (none_serves (original_net f) f f.settings.lengths fails h)
     ∙ ap (λ failures. says NoDesign (fails_text failures)) h
+    ∙ ap (λ lines. says NoDesign (codes "no design\n" ++ lines)) (flat_map-map fail_text Some fails)
 
 -- ---- the enclosures
 

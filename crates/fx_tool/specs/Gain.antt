@@ -13,7 +13,8 @@ use Rattle.fx_gain.specs.Enclosing.{enclosure, worst_words}
 use Rattle.fx_gain.specs.Lengths.{first_serving, length_failure, original_net}
 use Rattle.fx_gain.specs.Peak.{EnclosesPeak}
 use Rattle.fx_gain.specs.declared.fails.LengthFail.{LengthFail}
-use Rattle.fx_findings.specs.Peaks.{gain_lines, length_line}
+use Rattle.fx_findings.specs.Peaks.{length_line, peak_lines}
+use Rattle.fx_math.specs.Sums.{joined}
 use Rattle.fx_tool.specs.Answer.{Answer, says}
 use Rattle.fx_tool.specs.Plan.{Plan, Ends, Reads}
 use Rattle.fx_tool.specs.Reading.{Has}
@@ -22,6 +23,11 @@ use Rattle.fx_tool.specs.Writing.{GrowsBy}
 use Rattle.fx_tool.specs.declared.status.Status.TheVariants.{Done, NoDesign}
 
 -- ---- its lines
+
+-- for each output, and in it for each input
+abbrev pub all_lines : ℕ → ℕ → (ℕ → ℕ → Interval) → (ℕ → ℕ → List ℤ) → List ℕ
+all_lines outputs inputs interval words =
+    joined outputs (λ o. joined inputs (λ i. peak_lines o i (interval o i) (words o i)))
 
 -- a length that fails
 abbrev pub fail_line : LengthFail → List ℕ
@@ -38,7 +44,7 @@ fails_text fails = codes "no design\n" ++ flat_map fail_text fails
 -- the gains that are found over so many moments
 abbrev pub gains_text : Filter → ℕ → List ℕ
 gains_text f m =
-    gain_lines (length f.outputs) (length f.inputs) (enclosure (original_net f) f m) (worst_words (original_net f) f m)
+    all_lines (length f.outputs) (length f.inputs) (enclosure (original_net f) f m) (worst_words (original_net f) f m)
 
 -- ---- its plan
 
@@ -87,4 +93,4 @@ pub record Gains (files : Files) (name : List ℕ) (before after : Option (List 
   pub described : IsSomeAnd (get files name) (λ bytes. IsFileOf bytes filter)
   pub encloses : (o i : ℕ) → o < length filter.outputs → i < length filter.inputs →
       EnclosesPeak filter o i (interval o i) (words o i)
-  pub printed : GrowsBy (gain_lines (length filter.outputs) (length filter.inputs) interval words) before after
+  pub printed : GrowsBy (all_lines (length filter.outputs) (length filter.inputs) interval words) before after

@@ -32,7 +32,13 @@ pub enum Verb {
 }
 
 /// Each command.
-pub const VERBS: [Verb; 5] = [Verb::Check, Verb::Gain, Verb::Report, Verb::Show, Verb::Simulate];
+pub const VERBS: [Verb; 5] = [
+    Verb::Check,
+    Verb::Gain,
+    Verb::Report,
+    Verb::Show,
+    Verb::Simulate,
+];
 
 impl Verb {
     /// Its word on the command line.

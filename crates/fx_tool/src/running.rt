@@ -53,11 +53,25 @@ fn command_ending<S: Shelf>(
 {
     match (verb, names) {
         (Verb::Check, [filter, code, cert]) => {
-            check(alloc, Detail::Brief, filter.as_str(), code.as_str(), cert.as_str(), shelf)
+            check(
+                alloc,
+                Detail::Brief,
+                filter.as_str(),
+                code.as_str(),
+                cert.as_str(),
+                shelf,
+            )
         }
         (Verb::Gain, [filter]) => gain(alloc, filter.as_str(), shelf),
         (Verb::Report, [filter, code, cert]) => {
-            check(alloc, Detail::Full, filter.as_str(), code.as_str(), cert.as_str(), shelf)
+            check(
+                alloc,
+                Detail::Full,
+                filter.as_str(),
+                code.as_str(),
+                cert.as_str(),
+                shelf,
+            )
         }
         (Verb::Show, [filter]) => show(alloc, filter.as_str(), shelf),
         (Verb::Simulate, [code, samples]) => {

@@ -255,6 +255,38 @@ fn shows_by_the_file(rt: HostRuntime) -> Result<(), Fail> {
 }
 
 #[test]
+fn finds_gains_by_the_file(rt: HostRuntime) -> Result<(), Fail> {
+    let table: [Row<'_>; 3] = [
+        (
+            &[(
+                "f",
+                b"form = \"tf\"\nb = [\"1\"]\na = [\"1\", \"0.5\"]\naccumulator = 32\nlengths = [4]\n\
+                  inputs = [{ width = 16, bound = 100 }]\noutputs = [{ width = 16, error = \"3\" }]\n",
+            )],
+            Status::Done,
+            b"gain 0 0 187.500000000 200.000000000\nworst 0 0 -100 100 -100 100\n",
+        ),
+        // A sum of all inputs has no end.
+        (
+            &[(
+                "f",
+                b"form = \"tf\"\nb = [\"1\"]\na = [\"1\", \"-1\"]\naccumulator = 64\nlengths = [64, 256]\n\
+                  inputs = [{ width = 16, bound = 100 }]\noutputs = [{ width = 16, error = \"1\" }]\n",
+            )],
+            Status::NoDesign,
+            b"no design\nlength 64 input 0 slow row 0 403200 409600\n\
+              length 256 input 0 slow row 0 1612800 1638400\n",
+        ),
+        (&[("f", b"x")], Status::BadFilter, b"bad filter not toml\n"),
+    ];
+    assert_eq!(rt;
+        first_wrong(rt.alloc(), &["fixif", "gain", "f"], &table)?,
+        None
+    );
+    Ok(())
+}
+
+#[test]
 fn simulates_by_the_files(rt: HostRuntime) -> Result<(), Fail> {
     let table: [Row<'_>; 5] = [
         (
