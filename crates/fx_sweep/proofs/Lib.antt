@@ -30,3 +30,5 @@ pub mod Kept
 pub mod Lines
 pub mod SoFar
 pub mod Repeated
+pub mod OnceMore
+pub mod SweptOn

@@ -112,18 +112,18 @@ begun p net targets wanted some same none = record {
 }
 
 module _ (net : Net) (targets : List Target) (wanted t m : ℕ) where
-  -- the last moment that is wanted
-  pub moment_kept : (p q : KeptAtLength) → wanted ≡ m + 1 → q.moments ≡ p.moments → q.range ≡ p.range →
+  -- as many moments as are wanted
+  pub moment_kept : (p q : KeptAtLength) (n : ℕ) → wanted ≡ n → q.moments ≡ p.moments → q.range ≡ p.range →
       net.rows ≡ p.kept.size → AreEarlierSame t p.kept q.kept →
-      HoldsTarget q.kept t net (start_of (target_in targets t)) (m + 1) →
-      IsSoFar p net targets wanted t m → IsSoFar q net targets wanted t (m + 1)
-  moment_kept p q last moments range rows same held h = record {
+      HoldsTarget q.kept t net (start_of (target_in targets t)) n →
+      IsSoFar p net targets wanted t m → IsSoFar q net targets wanted t n
+  moment_kept p q n last moments range rows same held h = record {
     some = h.some;
     wanted_is = moments ∙ h.wanted_is;
     range_is = range ∙ h.range_is;
     earlier = λ none s l. held_stays t p.kept q.kept net (start_of (target_in targets s)) wanted s same rows l
         (h.earlier (sym range ∙ none) s l);
-    here = λ none l. subst (λ n. HoldsTarget q.kept t net (start_of (target_in targets t)) n) (sym last) held;
+    here = λ none l. subst (λ k. HoldsTarget q.kept t net (start_of (target_in targets t)) k) (sym last) held;
   }
 
   -- the target met no range within the length

@@ -1,6 +1,6 @@
 -- A sweep keeps its limits, and a moment of it is that of the definitions.
 use Rattle.std.proofs.Common.{◌≡◌, ℕ, suc, ◌+◌, ◌*◌, ◌<◌, Option, Some, None, List, refl, sym, ◌∙◌}
-use Rattle.std.proofs.Common.{ap, arith, add-one, unsigned_abs, ◌++◌}
+use Rattle.std.proofs.Common.{ap, arith, add-one, ◌≤◌, unsigned_abs, ◌++◌}
 use Rattle.std.proofs.Math.IntN.{ℤ, pos, ◌+ℤ◌}
 use Rattle.std.proofs.lemmas.Int.{ints}
 use Rattle.std.specs.Option.{option_or}
@@ -73,37 +73,37 @@ started_fits n target s long fits a b c d = record {
   few = omega arith;
 }
 
-more_widths : (count : ℕ) (xs : List ℤ) → WidthsFit (count * greatest_width + greatest_width) xs →
-    WidthsFit ((count + 1) * greatest_width) xs
-more_widths count xs h i = (let w = h i in (w.0, omega (arith, ints, w.1)))
+more_widths : (count k : ℕ) (xs : List ℤ) → WidthsFit (count * greatest_width + k * greatest_width) xs →
+    WidthsFit ((count + k) * greatest_width) xs
+more_widths count k xs h i = (let w = h i in (w.0, omega (arith, ints, w.1)))
 
-pub moved_fits : (n count : ℕ) (s t : Numbers) → count < GREATEST_LENGTH → SweepFits n count None s →
+pub moved_fits : (n count k : ℕ) (s t : Numbers) → count + k ≤ GREATEST_LENGTH → SweepFits n count None s →
     AreLong n t → AreNarrow greatest carried_width t.carried.items →
-    ((b : ℕ) → WidthsFit b s.widths.items → WidthsFit (b + greatest_width) t.widths.items) →
-    GainsFit t.row_gains.items → GainsFit t.input_gains.items → SweepFits n (count + 1) None t
-moved_fits n count s t few fits long narrow grown a b = record {
+    ((b : ℕ) → WidthsFit b s.widths.items → WidthsFit (b + k * greatest_width) t.widths.items) →
+    GainsFit t.row_gains.items → GainsFit t.input_gains.items → SweepFits n (count + k) None t
+moved_fits n count k s t few fits long narrow grown a b = record {
   numbers = record {
     long = long;
     narrow = narrow;
     widths_fit =
-        more_widths count t.widths.items (grown (count * greatest_width) fits.numbers.widths_fit);
+        more_widths count k t.widths.items (grown (count * greatest_width) fits.numbers.widths_fit);
     row_gains_fit =
         a;
     input_gains_fit = b;
   };
-  few = omega (arith, few);
+  few = few;
 }
 
 pub failed_fits : (n count : ℕ) (at : RangeAt) (s t u : Numbers) → count < GREATEST_LENGTH →
     SweepFits n count None s → AreLong n u → interval_in u.carried.items ≡ no_intervals →
     u.widths ≡ t.widths → u.row_gains ≡ t.row_gains → u.input_gains ≡ t.input_gains →
-    ((b : ℕ) → WidthsFit b s.widths.items → WidthsFit (b + greatest_width) t.widths.items) →
+    ((b : ℕ) → WidthsFit b s.widths.items → WidthsFit (b + 1 * greatest_width) t.widths.items) →
     GainsFit t.row_gains.items → GainsFit t.input_gains.items → SweepFits n count (Some at) u
 failed_fits n count at s t u few fits long zero w r i grown a b = record {
   numbers = record {
     long = long;
     narrow = nothing_narrow u.carried.items zero;
-    widths_fit = rw w (more_widths count t.widths.items (grown (count * greatest_width) fits.numbers.widths_fit));
+    widths_fit = rw w (more_widths count 1 t.widths.items (grown (count * greatest_width) fits.numbers.widths_fit));
     row_gains_fit = rw r a;
     input_gains_fit = rw i b;
   };

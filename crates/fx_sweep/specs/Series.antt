@@ -100,10 +100,12 @@ abbrev pub AreSoFar : List KeptAtLength → Net → List Target → List ℕ →
 AreSoFar parts net targets lengths t m = (l : ℕ) → l < length lengths →
     IsSoFar (part_in parts l) net targets (length_in lengths l) t m
 
--- the numbers of a sweep of target t, which was swept for one moment more, are kept, if that is the last that is wanted
+-- the numbers of a sweep of target t, which was swept on, from m moments to so many, with no length between them, are
+-- kept, if these are all that are wanted
 abbrev pub IsKeptOn : State → Net → ℕ → ℕ → KeptAtLength → KeptAtLength → Type 0
 IsKeptOn sweep net t moments p q =
-    (targets : List Target) (wanted m : ℕ) → moments ≡ m + 1 → Swept sweep net (target_in targets t) moments →
+    (targets : List Target) (wanted m : ℕ) → (m < wanted → moments ≤ wanted) →
+    Swept sweep net (target_in targets t) moments →
     IsSoFar p net targets wanted t m → IsSoFar q net targets wanted t moments
 
 -- target t, which met a range in moment m, is refused, if that moment is wanted

@@ -1,6 +1,6 @@
 -- The parts of a moment, and the limits that a sweep keeps.
 use Rattle.std.specs.Prelude.{◌≡◌, ◌≢◌, ℕ, ◌+◌, ◌-◌, ◌*◌, ◌^◌, ◌≤◌, nat_le, cond, ℤ, pos, ◌+ℤ◌, ◌≤ℤ◌, List}
-use Rattle.std.specs.Prelude.{[], ◌∷◌, length, unsigned_abs, Option, Some, None}
+use Rattle.std.specs.Prelude.{[], ◌∷◌, length, unsigned_abs, Option, Some, None, Result, Ok, Err, ◌*ℤ◌}
 use Rattle.std.specs.Option.{option_or}
 use Rattle.fx_math.specs.Sums.{joined}
 use Rattle.fx_eqs.specs.declared.limits.TheConstants.{PORTS}
@@ -49,9 +49,9 @@ greatest = 2 ^ OPERAND_BITS - 1
 abbrev pub carried_width : ℕ
 carried_width = 64 * product_apart
 
--- and an interval of a row, with at most 63 products more, is at most so wide
+-- and an interval of a row, with at most 64 products more, is at most so wide
 abbrev pub greatest_width : ℕ
-greatest_width = 2 ^ 64 - 1
+greatest_width = 2 ^ 64
 
 -- ---- ranges
 
@@ -113,10 +113,15 @@ GainsFit xs = (i : ℕ) → gain_in xs i ≤ greatest
 abbrev pub WidthsFit : ℕ → List ℤ → Type 0
 WidthsFit bound xs = (i : ℕ) → (pos 0 ≤ℤ whole_in xs i) × (whole_in xs i ≤ℤ pos bound)
 
+-- the intervals of rows are at most so wide
+abbrev pub AreNear : List Interval → Type 0
+AreNear xs = (i : ℕ) → (interval_in xs i).hi ≤ℤ ((interval_in xs i).lo +ℤ pos greatest_width)
+
 -- n rows
 pub record AreLong (n : ℕ) (s : Numbers) : Type 0 where
   pub carried_long : length s.carried.items ≡ n
   pub weights_long : length s.weights.items ≡ n
+  pub before_long : length s.before.items ≡ n
   pub widths_long : length s.widths.items ≡ n
   pub row_gains_long : length s.row_gains.items ≡ n
   pub inputs_long : length s.inputs.items ≡ PORTS
@@ -165,3 +170,34 @@ range_in net n at row_gains input_gains =
     option_or (first_range (row_value at row_gains) (joined n (row_places n)))
     (option_or (first_range (input_value (to_input net at) input_gains) (joined PORTS input_places))
     (first_range (rest_value (carry net at)) (joined n rest_places)))
+
+-- ---- several moments
+
+-- what the last moment added is added k times more
+pub record IsRepeatedOn (s t : Numbers) (k : ℕ) : Type 0 where
+  pub carried_same : t.carried ≡ s.carried
+  pub inputs_same : t.inputs ≡ s.inputs
+  pub widths_rise : whole_in t.widths.items
+      ≡ (λ i. whole_in s.widths.items i +ℤ pos k *ℤ width (interval_in s.weights.items i))
+  pub row_gains_rise : gain_in t.row_gains.items
+      ≡ (λ i. gain_in s.row_gains.items i + k * unsigned_abs (interval_in s.weights.items i).lo)
+  pub input_gains_rise : gain_in t.input_gains.items
+      ≡ (λ j. gain_in s.input_gains.items j + k * magnitude (interval_in s.inputs.items j))
+
+-- k moments were made, each of which adds what the first adds: where they are several, what is carried stays
+pub record IsMoved (net : Net) (n : ℕ) (s t : Numbers) (k : ℕ) : Type 0 where
+  pub stands : k ≢ 1 → interval_in t.carried.items ≡ interval_in s.carried.items
+  pub carried_is : interval_in t.carried.items ≡ carry net (settled_rows net n s)
+  pub carried_narrow : AreNarrow greatest carried_width t.carried.items
+  pub inputs_are : interval_in t.inputs.items ≡ to_input net (settled_rows net n s)
+  pub widths_rise : whole_in t.widths.items
+      ≡ (λ i. whole_in s.widths.items i +ℤ pos k *ℤ width (settled_rows net n s i))
+  pub row_gains_rise : gain_in t.row_gains.items
+      ≡ (λ i. gain_in s.row_gains.items i + k * unsigned_abs (settled_rows net n s i).lo)
+  pub input_gains_rise : gain_in t.input_gains.items
+      ≡ (λ j. gain_in s.input_gains.items j + k * magnitude (to_input net (settled_rows net n s) j))
+
+-- how many moments were begun, by an answer that tells how many were made
+abbrev pub made_by : Result ℕ RangeAt → ℕ
+made_by (Ok k) = k
+made_by (Err at) = 1

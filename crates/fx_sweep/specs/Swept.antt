@@ -91,6 +91,11 @@ abbrev pub count_after : {A : Type 0} → Result A RangeAt → ℕ → ℕ
 count_after (Ok _) count = count + 1
 count_after (Err at) count = count
 
+-- and that of an answer that tells how many moments were made
+abbrev pub count_of : Result ℕ RangeAt → ℕ → ℕ
+count_of (Ok k) count = count + k
+count_of (Err at) count = count
+
 -- nothing but the count of moments made has changed
 abbrev pub IsSameBut : State → State → Type 0
 IsSameBut s t = t ≡ record s { made = one_more s.made }

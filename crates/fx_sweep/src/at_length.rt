@@ -75,7 +75,7 @@ impl<const N: usize> AtLength<N> {
         }
     }
 
-    // Target t was swept for one moment more: keeps its numbers, if it is the last of the moments that are wanted.
+    // Target t was swept for so many moments: keeps its numbers, if these are all that are wanted.
     pub fn keep(&mut self, t: usize, sweep: &Sweep<N>, net: &Net<N>, moments: u16)
         requires { t < N + PORTS }
         ensures { IsKeptOn sweep.now (net_of net.now) t moments self.old self.new }

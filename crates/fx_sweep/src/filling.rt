@@ -30,8 +30,9 @@ pub fn sweep_target<const N: usize>(
     ensures made { sweep.new.made ≤ sweep.old.made + moments }
 {
     sweep.start(target);
-    for _ in 0..moments {
-        sweep.moment(net)?;
+    let mut done = 0;
+    while done < moments {
+        done += sweep.moments(net, moments - done)?;
     }
     Ok(())
 }

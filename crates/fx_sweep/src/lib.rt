@@ -8,6 +8,7 @@ mod handing;
 mod laws;
 mod limits;
 mod numbers;
+mod repeating;
 mod series;
 mod sums;
 mod sweep;

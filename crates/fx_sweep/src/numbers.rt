@@ -14,6 +14,7 @@ ghost use Rattle.std.specs.Prelude.{
   ℤ,
   pos,
   ◌+ℤ◌,
+  ◌*ℤ◌,
   ◌≤ℤ◌,
   unsigned_abs,
   OnOk,
@@ -29,8 +30,11 @@ ghost use Rattle.fx_nums.specs.Interval.{IntervalFits, magnitude, point};
 ghost use Rattle.fx_sweep.specs.Range.{first_range};
 ghost use Rattle.fx_sweep.specs.Steps.{
   AreNarrow,
+  AreNear,
   GainsFit,
+  IsMoved,
   IsNarrow,
+  IsRepeatedOn,
   AreLong,
   IsRowAdded,
   WidthsFit,
@@ -38,6 +42,7 @@ ghost use Rattle.fx_sweep.specs.Steps.{
   greatest,
   greatest_width,
   input_places,
+  made_by,
   product_apart,
   product_bound,
   input_value,
@@ -55,7 +60,8 @@ ghost use Rattle.fx_sweep.specs.Target.{TargetFits, power, start_of};
 ghost use Rattle.fx_sweep.specs.Weights.{carry, settle, to_input};
 
 use crate::handing::{add_row, hand_out};
-use crate::limits::GREATEST_SHIFT;
+use crate::limits::{GREATEST_LENGTH, GREATEST_SHIFT};
+use crate::repeating::{are_same, have_room, raise_inputs, raise_rows, widen_rows};
 use crate::target::{Place, RangeAt, Target};
 use fx_cross::Cross;
 use fx_eqs::PORTS;
@@ -71,6 +77,8 @@ pub struct Numbers {
     pub carried: Vec<Iv>,
     // The intervals of this moment's rows.
     pub weights: Vec<Iv>,
+    // What was carried to the rows of this moment.
+    pub before: Vec<Iv>,
     // The intervals of this moment's inputs.
     pub inputs: Vec<Iv>,
     // What was added up, times 2^64.
@@ -80,7 +88,7 @@ pub struct Numbers {
 }
 
 // The greater magnitude of an interval's ends.
-fn magnitude_of(v: Iv) -> u128
+pub fn magnitude_of(v: Iv) -> u128
     ensures value { result ≡ magnitude v }
     ensures fits { result < 2 ^ 120 }
 {
@@ -192,6 +200,7 @@ fn settle_rows<const N: usize>(
         (joined N (row_places N)) }
     ensures settled { OnOk result (interval_in weights.new ≡ settle (net_of net.now) N (interval_in weights.old)) }
     ensures small { OnOk result ((i : ℕ) → magnitude (interval_in weights.new i) ≤ greatest) }
+    ensures near { OnOk result (AreNear weights.new) }
     ensures widths { OnOk result (whole_in widths.new ≡ (λ i.
         whole_in widths.old i +ℤ width (interval_in weights.new i))) }
     ensures gains { OnOk result (gain_in gains.new ≡ (λ i.
@@ -297,6 +306,10 @@ fn turn<const N: usize>(
     ensures range { range_of result
         ≡ range_in (net_of net.now) N (settle (net_of net.now) N (interval_in weights.old))
         (gain_in row_gains.old) (gain_in input_gains.old) }
+    ensures weights { OnOk result (interval_in weights.new
+        ≡ settle (net_of net.now) N (interval_in weights.old)) }
+    ensures weights_count { length weights.new ≡ N }
+    ensures near { OnOk result (AreNear weights.new) }
     ensures carried { OnOk result (interval_in carried.new
         ≡ carry (net_of net.now) (settle (net_of net.now) N (interval_in weights.old))) }
     ensures inputs { OnOk result (interval_in inputs.new
@@ -387,6 +400,7 @@ impl Numbers {
         Ok(Numbers {
             carried: vec![in alloc; Iv::point(0); rows]?,
             weights: vec![in alloc; Iv::point(0); rows]?,
+            before: vec![in alloc; Iv::point(0); rows]?,
             inputs: vec![in alloc; Iv::point(0); PORTS]?,
             widths: vec![in alloc; 0; rows]?,
             row_gains: vec![in alloc; 0; rows]?,
@@ -433,6 +447,10 @@ impl Numbers {
         ensures range { range_of result
             ≡ range_in (net_of net.now) N (settled_rows (net_of net.now) N self.old)
             (gain_in self.old.row_gains.items) (gain_in self.old.input_gains.items) }
+        ensures before { self.new.before ≡ self.old.before }
+        ensures weights { OnOk result (interval_in self.new.weights.items
+            ≡ settled_rows (net_of net.now) N self.old) }
+        ensures near { OnOk result (AreNear self.new.weights.items) }
         ensures carried { OnOk result (interval_in self.new.carried.items
             ≡ carry (net_of net.now) (settled_rows (net_of net.now) N self.old)) }
         ensures inputs { OnOk result (interval_in self.new.inputs.items
@@ -462,5 +480,71 @@ impl Numbers {
             &mut self.row_gains,
             &mut self.input_gains,
         )
+    }
+
+    // Adds what the last moment added so many times more, if it left what is carried as it was and no gain reaches the
+    // limit in it. Answers how many times it did: none, or all.
+    fn repeat(&mut self, times: u16) -> u16
+        requires long { (length self.old.before.items ≡ length self.old.carried.items)
+            × (length self.old.weights.items ≡ length self.old.widths.items)
+            × (length self.old.weights.items ≡ length self.old.row_gains.items)
+            × (length self.old.inputs.items ≡ length self.old.input_gains.items) }
+        requires times { times ≤ GREATEST_LENGTH }
+        requires near { AreNear self.old.weights.items }
+        requires widths_fit { WidthsFit (2 ^ 100) self.old.widths.items }
+        requires row_gains_fit { GainsFit self.old.row_gains.items }
+        requires input_gains_fit { GainsFit self.old.input_gains.items }
+        ensures few { result ≤ times }
+        ensures repeated { IsRepeatedOn self.old self.new result }
+        ensures long { (n : ℕ) → AreLong n self.old → AreLong n self.new }
+        ensures stands { result ≢ 0 → interval_in self.old.carried.items ≡ interval_in self.old.before.items }
+        ensures widths_fit { (b : ℕ) → WidthsFit b self.old.widths.items →
+            WidthsFit (b + result * greatest_width) self.new.widths.items }
+        ensures row_gains_fit { GainsFit self.new.row_gains.items }
+        ensures input_gains_fit { GainsFit self.new.input_gains.items }
+    {
+        if times == 0 {
+            return 0;
+        }
+        if !are_same(&self.carried, &self.before) {
+            return 0;
+        }
+        if !have_room(&self.row_gains, &self.weights, times) {
+            return 0;
+        }
+        if !have_room(&self.input_gains, &self.inputs, times) {
+            return 0;
+        }
+        widen_rows(&mut self.widths, &self.weights, times);
+        raise_rows(&mut self.row_gains, &self.weights, times);
+        raise_inputs(&mut self.input_gains, &self.inputs, times);
+        times
+    }
+
+    /// One moment of a sweep, backwards; or at most so many, where it leaves what is carried as it was, so that the
+    /// later ones repeat it. Answers how many; its error is the first range that is met in the moment.
+    pub fn moments<const N: usize>(&mut self, net: &Net<N>, most: u16) -> Result<u16, RangeAt>
+        requires some { 1 ≤ most }
+        requires short { most ≤ GREATEST_LENGTH }
+        requires long { AreLong N self.old }
+        requires narrow { AreNarrow greatest carried_width self.old.carried.items }
+        requires widths_fit { WidthsFit (2 ^ 100 - greatest_width) self.old.widths.items }
+        requires row_gains_fit { GainsFit self.old.row_gains.items }
+        requires input_gains_fit { GainsFit self.old.input_gains.items }
+        ensures some { IfOk result (λ made. 1 ≤ made) }
+        ensures few { IfOk result (λ made. made ≤ most) }
+        ensures range { range_of result
+            ≡ range_in (net_of net.now) N (settled_rows (net_of net.now) N self.old)
+            (gain_in self.old.row_gains.items) (gain_in self.old.input_gains.items) }
+        ensures moved { IfOk result (IsMoved (net_of net.now) N self.old self.new) }
+        ensures long { AreLong N self.new }
+        ensures widths_fit { (b : ℕ) → WidthsFit b self.old.widths.items →
+            WidthsFit (b + made_by result * greatest_width) self.new.widths.items }
+        ensures row_gains_fit { GainsFit self.new.row_gains.items }
+        ensures input_gains_fit { GainsFit self.new.input_gains.items }
+    {
+        self.before.copy_from_slice(&self.carried);
+        self.moment(net)?;
+        Ok(1 + self.repeat(most - 1))
     }
 }

@@ -121,7 +121,7 @@ fn begin_each<const N: usize>(parts: &mut [AtLength<N>], lengths: &[u16])
     }
 }
 
-// Target t was swept for one moment more: keeps its numbers for each of the first lengths that end there.
+// Target t was swept for so many moments: keeps its numbers for each of the first lengths that end there.
 fn keep_each<const N: usize>(
     parts: &mut [AtLength<N>],
     count: usize,
@@ -184,6 +184,24 @@ fn longest<const N: usize>(parts: &[AtLength<N>], count: usize) -> u16
     longest
 }
 
+// The least length above so many moments, or the limit, where that is less.
+fn next_length(lengths: &[u16], moments: u16, limit: u16) -> u16
+    requires { moments < limit }
+    ensures more { moments < result }
+    ensures inside { result ≤ limit }
+    ensures next { (l : ℕ) → l < length lengths.now → moments < length_in lengths.now l →
+        result ≤ length_in lengths.now l }
+{
+    let mut next = limit;
+    for l in 0..lengths.len() {
+        let at = length_at(lengths, l);
+        if at > moments && at < next {
+            next = at;
+        }
+    }
+    next
+}
+
 // Sweeps target t once, and keeps its numbers at each length.
 fn sweep_target<const N: usize>(
     parts: &mut [AtLength<N>],
@@ -204,9 +222,14 @@ fn sweep_target<const N: usize>(
     nets_fit(net);
     let longest = longest(parts, lengths.len());
     sweep.start(target_at(targets, t));
-    for moments in 0..longest {
-        match sweep.moment(net) {
-            Ok(()) => keep_each(parts, lengths.len(), t, sweep, net, moments + 1),
+    let mut moments = 0;
+    while moments < longest {
+        let next = next_length(lengths, moments, longest);
+        match sweep.moments(net, next - moments) {
+            Ok(more) => {
+                moments += more;
+                keep_each(parts, lengths.len(), t, sweep, net, moments);
+            }
             Err(at) => return refuse_each(parts, lengths.len(), t, at, moments),
         }
     }

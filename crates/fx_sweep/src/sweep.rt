@@ -28,6 +28,7 @@ ghost use Rattle.fx_sweep.specs.Swept.{
   Swept,
   carried_at,
   count_after,
+  count_of,
   input_at,
   input_gain_at,
   one_more,
@@ -118,18 +119,43 @@ impl<const N: usize> Sweep<N> {
         ensures count { self.new.count ≡ count_after result self.old.count }
         ensures made { self.new.made ≡ one_more self.old.made }
     {
+        self.moments(net, 1)?;
+        Ok(())
+    }
+
+    // One moment of the sweep; or at most so many, where it leaves what is carried as it was, so that those after it
+    // repeat it. Answers how many. Only one is counted as made.
+    pub(crate) fn moments(&mut self, net: &Net<N>, most: u16) -> Result<u16, RangeAt>
+        requires some { 1 ≤ most }
+        requires short { self.old.count + most ≤ GREATEST_LENGTH }
+        ensures some { IfOk result (λ moments. 1 ≤ moments) }
+        ensures few { IfOk result (λ moments. moments ≤ most) }
+        ensures range { (target : AnyTarget) (m : ℕ) → Swept self.old (net_of net.now) target m →
+            range_of result ≡ range_at (net_of net.now) (start_of target) m }
+        ensures swept { (target : AnyTarget) (m : ℕ) → Swept self.old (net_of net.now) target m →
+            IfOk result (λ moments. Swept self.new (net_of net.now) target (m + moments)) }
+        ensures kept { self.new.range ≡ range_of result }
+        ensures again { (at : AnyRange) → self.old.range ≡ Some at → range_of result ≡ Some at }
+        ensures leaves { (at : AnyRange) → self.old.range ≡ Some at → IsSameBut self.old self.new }
+        ensures count { self.new.count ≡ count_of result self.old.count }
+        ensures made { self.new.made ≡ one_more self.old.made }
+    {
         nets_fit(net);
         self.made = self.made.saturating_add(1);
         if let Some(at) = self.range {
             return Err(at);
         }
-        if let Err(at) = self.numbers.moment(net) {
-            self.numbers.drop_carried();
-            self.range = Some(at);
-            return Err(at);
+        match self.numbers.moments(net, most) {
+            Ok(moments) => {
+                self.count += moments;
+                Ok(moments)
+            }
+            Err(at) => {
+                self.numbers.drop_carried();
+                self.range = Some(at);
+                Err(at)
+            }
         }
-        self.count += 1;
-        Ok(())
     }
 
     /// The interval of input `j`, below `PORTS`, in the last moment; 0 before the first.

@@ -293,3 +293,22 @@ fn some_lengths_meet_a_range(rt: HostRuntime) -> Result<(), Fail> {
     assert_eq!(rt; sweep.made(), 64 + 3 + 2);
     Ok(())
 }
+
+#[test]
+fn moments_that_stand_are_not_made(rt: HostRuntime) -> Result<(), Fail> {
+    let half = Frac::new(1, Den::Two(1)).ok_or("in range")?;
+    let net = rounded_and_not(rt.alloc(), half, half)?;
+    let totals = filled(&rt, rt.alloc(), &net, &[Target::Row(0)], &[4096])?;
+    let total = total_of(&rt, &totals, 0, &[100, 0, 0, 0], &[201, 200]);
+    assert_eq!(rt; total, (201 << 64) + 101);
+    let mut sweep: Sweep<2> = Sweep::new(rt.alloc())?;
+    let mut series: Series<2> = Series::new(rt.alloc())?;
+    let targets = [Target::Row(0), Target::Row(1), DIFFERENCE];
+    fill_series(&rt, &mut series, &mut sweep, &net, &targets, &[4096, 100]);
+    assert!(rt; sweep.made() < 300);
+    // From moment 65 on the weight of row 1 is -1, so each moment adds 1 to the gain and 1 to the width.
+    let rest = (1i128 << 64) + 201 + 200;
+    assert_eq!(rt; third_total(&rt, &series, 0), Ok(rest + 300 * 4031));
+    assert_eq!(rt; third_total(&rt, &series, 1), Ok(rest + 300 * 35));
+    Ok(())
+}

@@ -1,5 +1,6 @@
 use Rattle.std.proofs.Common.{◌≡◌, ℕ, suc, ◌+◌, ◌-◌, ◌*◌, ◌^◌, ◌<◌, Some, arith, ◌∙◌, sym, subst}
 use Rattle.std.proofs.lemmas.Grind.{common_steps}
+use Rattle.std.proofs.lemmas.Int.{ints}
 use Rattle.fx_net.specs.Tables.{net_of}
 use Rattle.fx_nums.specs.Fraction.{Fraction}
 use Rattle.fx_sweep.specs.Steps.{IsRowAdded, carried_width, greatest, greatest_width, product_apart, product_bound}
@@ -63,3 +64,7 @@ returns-in_err-settle_row-clause-widths_fit g c b h =
     (whole_in c.settle_row.new.widths) h (c.loop-i.invariant.widths_fit b h)
     (c.loop-i.invariant.settling.widths_left (c.loop-i.i - 1) (omega (arith, c.loop-i-test.true)))
     c.settle_row.ensures.widths_else c.settle_row.ensures.width_grows
+
+pub returns-clause-near : goal.returns-clause-near
+returns-clause-near g c i =
+    omega (arith, ints, (c.loop-i.invariant.narrow i).near, c.loop-i-test.false, c.nets_fit.ensures.rows_high)

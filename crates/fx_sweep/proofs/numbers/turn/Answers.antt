@@ -40,6 +40,12 @@ returns-clause-range g c =
     (joined PORTS input_places)) (first_range (rest_value (carry net at)) (joined g.row.N rest_places))))
     c.in_ok-settle_rows.ensures.range
 
+pub returns-clause-weights : goal.returns-clause-weights
+returns-clause-weights g c = always_ok c.hand_back.result _ c.in_ok-settle_rows.ensures.settled
+
+pub returns-clause-near : goal.returns-clause-near
+returns-clause-near g c = always_ok c.hand_back.result _ c.in_ok-settle_rows.ensures.near
+
 pub returns-clause-carried : goal.returns-clause-carried
 returns-clause-carried g c =
     where_ok c.hand_back.result _ _ c.hand_back.ensures.carried (λ e.

@@ -14,15 +14,27 @@ loop-moments-init g c =
           (c.start.ensures.swept (net_of c.args.net.now));
       so_far = c.requires.before;
       made = omega arith;
+      few = omega arith;
     }
 
-pub moment-requires : goal.moment-requires
-moment-requires g c =
+pub moments-requires : goal.moments-requires
+moments-requires g c =
     let short : c.longest-longest.result ≤ GREATEST_LENGTH =
     c.longest-longest.ensures.few GREATEST_LENGTH
     (want_up_to c.args.parts.now (net_of c.args.net.now) c.args.targets.now c.args.lengths.now c.args.t 0
-    GREATEST_LENGTH c.requires.before c.requires.can.short) in
-    (omega arith, (omega arith, omega (arith, short, c.loop-moments-test.true, c.loop-moments.invariant.swept.counted)))
+    GREATEST_LENGTH c.requires.before c.requires.can.short) in (
+      omega (arith, c.next_length-next.ensures.more),
+      (
+        omega (arith, c.next_length-next.ensures.more),
+        omega (
+          arith,
+          short,
+          c.next_length-next.ensures.inside,
+          c.next_length-next.ensures.more,
+          c.loop-moments.invariant.swept.counted,
+        ),
+      ),
+    )
 
 pub returns-in-Err-clause-after : goal.returns-in-Err-clause-after
 returns-in-Err-clause-after g c l inside =
@@ -36,7 +48,7 @@ returns-in-Err-clause-made g c most bound =
     omega (
       arith,
       c.loop-moments.invariant.made,
-      c.moment.ensures.made,
+      c.moments.ensures.made,
       c.start.ensures.made,
       c.loop-moments-test.true,
       c.longest-longest.ensures.few most (want_up_to c.args.parts.now (net_of c.args.net.now) c.args.targets.now
@@ -52,14 +64,21 @@ loop-moments-preserved g c =
       long = c.keep_each.ensures.count ∙ c.loop-moments.invariant.long;
       swept = swept;
       so_far = λ l inside. c.keep_each.ensures.kept l inside c.args.targets.now (length_in c.args.lengths.now l)
-          c.loop-moments.moments refl swept (c.loop-moments.invariant.so_far l inside);
-      made = omega (arith, c.loop-moments.invariant.made, c.moment.ensures.made);
+          c.loop-moments.moments
+          (λ less. omega (
+            arith,
+            c.in-Ok.ensures.few,
+            c.next_length-next.ensures.next l inside less,
+            c.next_length-next.ensures.more,
+          )) swept (c.loop-moments.invariant.so_far l inside);
+      made = omega (arith, c.loop-moments.invariant.made, c.moments.ensures.made, c.in-Ok.ensures.some);
+      few = omega (arith, c.in-Ok.ensures.few, c.next_length-next.ensures.inside, c.next_length-next.ensures.more);
     }
 
 pub returns-clause-after : goal.returns-clause-after
 returns-clause-after g c =
     let all : c.longest-longest.result ≡ c.loop-moments.moments =
-    omega (arith, c.loop-moments-test.false, c.loop-moments.auto.moments-end) in
+    omega (arith, c.loop-moments-test.false, c.loop-moments.invariant.few) in
     all_passed c.args.parts.now c.loop-moments.parts (net_of c.args.net.now) c.args.targets.now c.args.lengths.now
     c.args.t c.loop-moments.moments c.requires.target c.loop-moments.invariant.swept.within
     (λ l inside none. omega (arith, all, c.longest-longest.ensures.covers l inside none)) c.requires.before
@@ -71,8 +90,7 @@ returns-clause-made g c most bound =
       arith,
       c.loop-moments.invariant.made,
       c.start.ensures.made,
-      c.loop-moments-test.false,
-      c.loop-moments.auto.moments-end,
+      c.loop-moments.invariant.few,
       c.longest-longest.ensures.few most (want_up_to c.args.parts.now (net_of c.args.net.now) c.args.targets.now
           c.args.lengths.now c.args.t 0 most c.requires.before bound),
     )

@@ -1,4 +1,4 @@
-use Rattle.std.proofs.Common.{◌≡◌, ◌+◌, ◌≤◌, length}
+use Rattle.std.proofs.Common.{◌≡◌, ◌+◌, ◌-◌, ◌≤◌, length}
 use Rattle.fx_net.specs.Tables.{net_of}
 use Rattle.fx_sweep.specs.Filled.{target_in}
 use Rattle.fx_sweep.specs.Series.{AreSoFar}
@@ -11,4 +11,8 @@ invariant-loop-moments g l = record {
   swept : Swept l.sweep (net_of l.net) (target_in l.targets l.t) l.moments;
   so_far : AreSoFar l.parts (net_of l.net) l.targets l.lengths l.t l.moments;
   made : l.sweep.made ≤ l.initial.sweep.made + l.moments;
+  few : l.moments ≤ l.longest;
 }
+
+abbrev pub decreases-loop-moments : goal.decreases-loop-moments
+decreases-loop-moments g l = l.longest - l.moments

@@ -16,9 +16,7 @@ returns-then-self-moments g c targets wanted m next swept so_far =
     let after : KeptAtLength = record before { kept = c.keep.new.self } in
     let net = net_of c.args.net.now in
     let was = subst (λ (p : KeptAtLength). IsSoFar p net targets wanted c.args.t m) (sym c.self.view_is) so_far in
-    let last : wanted ≡ m + 1 = sym was.wanted_is ∙ (c.if-self-moments.true ∙ next) in
-    let held = subst (λ n. HoldsTarget c.keep.new.self c.args.t net (start_of (target_in targets c.args.t)) n) next
-    (c.keep.ensures.held (target_in targets c.args.t) c.args.moments swept) in
-    subst (λ n. IsSoFar after net targets wanted c.args.t n) (sym next)
-    (moment_kept net targets wanted c.args.t m before after last refl refl
-    (c.nets_fit.ensures.rows ∙ sym c.totals_fit.ensures.size) c.keep.ensures.earlier held was)
+    let last : wanted ≡ c.args.moments = sym was.wanted_is ∙ c.if-self-moments.true in
+    moment_kept net targets wanted c.args.t m before after c.args.moments last refl refl
+    (c.nets_fit.ensures.rows ∙ sym c.totals_fit.ensures.size) c.keep.ensures.earlier
+    (c.keep.ensures.held (target_in targets c.args.t) c.args.moments swept) was

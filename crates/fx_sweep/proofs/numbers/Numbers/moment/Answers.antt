@@ -4,7 +4,7 @@ use Rattle.std.proofs.Math.IntN.{ℤ}
 use Rattle.std.specs.Vec.{with_items}
 use Rattle.fx_net.specs.Tables.{net_of}
 use Rattle.fx_nums.specs.Interval.{Interval}
-use Rattle.fx_sweep.specs.Steps.{AreNarrow, WidthsFit, carried_width, greatest, greatest_width}
+use Rattle.fx_sweep.specs.Steps.{AreNarrow, AreNear, WidthsFit, carried_width, greatest, greatest_width}
 use Rattle.fx_sweep.specs.Swept.{gain_in, interval_in}
 use Rattle.fx_sweep.proofs.Turned.{where_ok, same_ranges, same_gains}
 use Rattle.fx_sweep.proofs.numbers.Numbers.moment.Goals as goal
@@ -41,3 +41,9 @@ returns-clause-widths_fit g c b h =
     let before : WidthsFit b c.deref_mut-4.result.now =
     subst (λ (xs : List ℤ). WidthsFit b xs) (sym c.deref_mut-4.ensures.value) h in
     subst (λ (xs : List ℤ). WidthsFit (b + greatest_width) xs) (sym kept) (c.turn.ensures.widths_fit b before)
+
+pub returns-clause-near : goal.returns-clause-near
+returns-clause-near g c =
+    let kept : (with_items c.swap.new.y c.turn.new.weights).items ≡ c.turn.new.weights =
+    with_items_is c.swap.new.y c.turn.new.weights (search (rules, places)) in
+    where_ok c.turn.result _ _ c.turn.ensures.near (λ h. subst (λ (xs : List Interval). AreNear xs) (sym kept) h)
