@@ -145,15 +145,14 @@ structure_printed structure.Lattice = refl
 structure_printed structure.Ss = refl
 
 below_is_line : (step : ℕ) (k : Interval) → IsLine (codes "unbuildable not below one " ++ decimal step
-    ++ up_part (codes " ") k.lo ++ up_part (codes " ") k.hi ++ codes "\n")
+    ++ codes " " ++ signed_decimal k.lo ++ codes " " ++ signed_decimal k.hi ++ codes "\n")
 below_is_line step k =
     let front = codes "unbuildable not below one " ++ decimal step in
-    let low = up_part (codes " ") k.lo in
-    let high = up_part (codes " ") k.hi in
-    line_of (front ++ low ++ high)
-    (both_printed (front ++ low) high
-    (both_printed front low (numbered (codes "unbuildable not below one ") step refl)
-    (part_printed (codes " ") k.lo refl)) (part_printed (codes " ") k.hi refl))
+    let low = front ++ codes " " ++ signed_decimal k.lo in
+    line_of (low ++ codes " " ++ signed_decimal k.hi)
+    (more low (signed_decimal k.hi)
+    (more front (signed_decimal k.lo) (numbered (codes "unbuildable not below one ") step refl)
+    (signed_printed k.lo)) (signed_printed k.hi))
 
 pub fault_line : StructureFaultLine
 fault_line (fault.NotListed f s) there =

@@ -6,7 +6,7 @@ ghost use Rattle.fx_findings.specs.Structures.{structure_fault_line};
 ghost use Rattle.fx_findings.specs.Laws.{StructureFaultLine};
 
 use fx_files::{Form, Structure};
-use fx_lines::{put_field, put_up, put_word};
+use fx_lines::{put_field, put_word};
 use fx_make::StructureFault;
 use fx_nums::Iv;
 use itoa::Integer;
@@ -51,14 +51,14 @@ fn not_below_one(alloc: Global, step: u8, k: Iv) -> Result<Vec<u8>, AllocError>
 {
     let mut text = Vec::new(alloc);
     put_field(&mut text, "unbuildable not below one ", step)?;
-    put_up(&mut text, " ", k.lo())?;
-    put_up(&mut text, " ", k.hi())?;
+    put_field(&mut text, " ", k.lo())?;
+    put_field(&mut text, " ", k.hi())?;
     put_word(&mut text, "\n")?;
     Ok(text)
 }
 
-/// The line of a filter that cannot have the structure that it asks for. Ends of an enclosure have nine places, rounded
-/// up in the last. Want of memory has none: its text is empty.
+/// The line of a filter that cannot have the structure that it asks for. Ends of an enclosure are whole numbers at the
+/// scale 2^-64. Want of memory has none: its text is empty.
 pub fn structure_fault_line(alloc: Global, fault: &StructureFault) -> Result<Vec<u8>, AllocError>
     ensures { IfOk result (λ t. t.items ≡ structure_fault_line fault.now) }
 {

@@ -128,7 +128,7 @@ fn structure_faults() -> [(StructureFault, &'static [u8]); 5] {
         (StructureFault::Order(12, 11), b"unbuildable order 12 11\n"),
         (
             StructureFault::NotBelowOne(2, Iv::point(-18446744073709551617)),
-            b"unbuildable not below one 2 -1.000000000 -1.000000000\n",
+            b"unbuildable not below one 2 -18446744073709551617 -18446744073709551617\n",
         ),
         (StructureFault::Range(7), b"unbuildable range 7\n"),
     ]
