@@ -144,16 +144,6 @@ structure_printed structure.Fir = refl
 structure_printed structure.Lattice = refl
 structure_printed structure.Ss = refl
 
-below_is_line : (step : ℕ) (k : Interval) → IsLine (codes "unbuildable not below one " ++ decimal step
-    ++ codes " " ++ signed_decimal k.lo ++ codes " " ++ signed_decimal k.hi ++ codes "\n")
-below_is_line step k =
-    let front = codes "unbuildable not below one " ++ decimal step in
-    let low = front ++ codes " " ++ signed_decimal k.lo in
-    line_of (low ++ codes " " ++ signed_decimal k.hi)
-    (more low (signed_decimal k.hi)
-    (more front (signed_decimal k.lo) (numbered (codes "unbuildable not below one ") step refl)
-    (signed_printed k.lo)) (signed_printed k.hi))
-
 pub fault_line : StructureFaultLine
 fault_line (fault.NotListed f s) there =
     numbers_line (codes "unbuildable not listed ") (form_text f) (structure_text s) refl (form_printed f)
@@ -163,7 +153,9 @@ fault_line (fault.NotFir count) there =
 fault_line (fault.Order order greatest) there =
     numbers_line (codes "unbuildable order ") (decimal order) (decimal greatest) refl (decimal_printed order)
     (decimal_printed greatest)
-fault_line (fault.NotBelowOne step k) there = below_is_line step k
+fault_line (fault.NotBelowOne step k) there =
+    sides_are_line (codes "unbuildable not below one " ++ decimal step) k.lo k.hi
+    (numbered (codes "unbuildable not below one ") step refl)
 fault_line (fault.Range step) there =
     number_line (codes "unbuildable range ") (decimal step) refl (decimal_printed step)
 fault_line fault.NoMemory there = absurd (there refl)

@@ -6,7 +6,7 @@ ghost use Rattle.fx_findings.specs.Structures.{structure_fault_line};
 ghost use Rattle.fx_findings.specs.Laws.{StructureFaultLine};
 
 use fx_files::{Form, Structure};
-use fx_lines::{put_field, put_word};
+use fx_lines::{put_compared, put_field, put_word};
 use fx_make::StructureFault;
 use fx_nums::Iv;
 use itoa::Integer;
@@ -50,10 +50,13 @@ fn not_below_one(alloc: Global, step: u8, k: Iv) -> Result<Vec<u8>, AllocError>
     ensures { IfOk result (λ t. t.items ≡ structure_fault_line (NotBelowOne step k)) }
 {
     let mut text = Vec::new(alloc);
-    put_field(&mut text, "unbuildable not below one ", step)?;
-    put_field(&mut text, " ", k.lo())?;
-    put_field(&mut text, " ", k.hi())?;
-    put_word(&mut text, "\n")?;
+    put_compared(
+        &mut text,
+        "unbuildable not below one ",
+        step,
+        k.lo(),
+        k.hi(),
+    )?;
     Ok(text)
 }
 
