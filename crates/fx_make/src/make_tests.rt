@@ -1,4 +1,4 @@
-use crate::{Fail, Made, MakeFault, StructureFault, make};
+use crate::{Fail, Failed, Made, MakeFault, StructureFault, make};
 use fx_files::{Filter, FilterFault, read_filter};
 use fx_nums::Iv;
 use std::alloc::Global;
@@ -54,35 +54,50 @@ fn a_length_that_is_too_short_is_passed_over(rt: HostRuntime) -> Result<(), Test
     Ok(())
 }
 
+fn check_lengths(rt: &impl std::process::Abort, list: &[Failed]) {
+    assert_eq!(rt; list.len(), 2);
+    assert_eq!(rt;
+        (list[0].guard, list[0].fraction, list[0].length),
+        (0, 14, 64)
+    );
+    assert_eq!(rt; list[0].why, Fail::Over(2, 38400, 32767));
+    assert_eq!(rt; list[1].length, 256);
+    assert_eq!(rt; list[1].why, Fail::Over(2, 51200, 32767));
+}
+
+fn check_no_design(rt: &impl std::process::Abort, fault: &MakeFault) {
+    match fault {
+        MakeFault::NoDesign(fails) => check_lengths(rt, fails.list()),
+        _ => assert!(rt; false),
+    }
+}
+
 #[test]
 fn an_integrator_has_no_design(rt: HostRuntime) -> Result<(), TestFail> {
     let filter = filter(rt.alloc(), INTEGRATOR, 1, "64, 256")?;
     match make(rt.alloc(), &filter) {
-        Err(MakeFault::NoDesign(fails)) => {
-            let list = fails.list();
-            assert_eq!(rt; list.len(), 2);
-            assert_eq!(rt;
-                (list[0].guard, list[0].fraction, list[0].length),
-                (0, 14, 64)
-            );
-            assert_eq!(rt; list[0].why, Fail::Over(2, 38400, 32767));
-            assert_eq!(rt; list[1].length, 256);
-            assert_eq!(rt; list[1].why, Fail::Over(2, 51200, 32767));
+        Ok(_) => assert!(rt; false),
+        Err(fault) => check_no_design(&rt, &fault),
+    }
+    Ok(())
+}
+
+fn check_unbuildable(rt: &impl std::process::Abort, fault: &MakeFault) {
+    match fault {
+        MakeFault::Unbuildable(why) => {
+            let one = Iv::point(18446744073709551616);
+            assert_eq!(rt; *why, StructureFault::NotBelowOne(1, one));
         }
         _ => assert!(rt; false),
     }
-    Ok(())
 }
 
 #[test]
 fn a_pole_on_the_unit_circle_has_no_lattice(rt: HostRuntime) -> Result<(), TestFail> {
     let filter = filter(rt.alloc(), ON_THE_CIRCLE, 1, "64")?;
     match make(rt.alloc(), &filter) {
-        Err(MakeFault::Unbuildable(why)) => {
-            let one = Iv::point(18446744073709551616);
-            assert_eq!(rt; why, StructureFault::NotBelowOne(1, one));
-        }
-        _ => assert!(rt; false),
+        Ok(_) => assert!(rt; false),
+        Err(fault) => check_unbuildable(&rt, &fault),
     }
     Ok(())
 }
