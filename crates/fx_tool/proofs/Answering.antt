@@ -1,5 +1,5 @@
 -- What the answers of the plans have in common, and what a run gives of them that fails before its text.
-use Rattle.std.proofs.Common.{◌≡◌, ◌⊎◌, inl, inr, ℕ, ℤ, nat_le, Bool, true, false, cond, IsTrue, arith, List, []}
+use Rattle.std.proofs.Common.{◌≡◌, ◌⊎◌, inl, inr, ℕ, ◌≤◌, ℤ, nat_le, Bool, true, false, cond, IsTrue, arith, List, []}
 use Rattle.std.proofs.Common.{◌∷◌, length, Option, Some, None, Result, Ok, Err, refl, sym, ap, subst, ◌∙◌}
 use Rattle.std.proofs.lemmas.List.{append-nil}
 use Rattle.std.specs.FinMap.{get}
@@ -26,15 +26,23 @@ use Rattle.fx_tool.specs.Command.{Command, command_of}
 use Rattle.fx_tool.specs.Gain.{by_serving, gained, gains, serving}
 use Rattle.fx_tool.specs.Judgement.{by_failure, judged, reported, told}
 use Rattle.fx_tool.specs.Operand.{limit_of, too_long}
-use Rattle.fx_tool.specs.Plan.{Plan, Ends, Reads, by_content, answer_by, OfAnswer}
-use Rattle.fx_tool.specs.Running.{plan_of, operands_to, names_to, plan_to, answer_of, with_placed, FollowsWords}
-use Rattle.fx_tool.specs.Running.{Leaves, OfWords, PlacesAnswer}
+use Rattle.fx_tool.specs.Plan.{Plan, Ends, Reads, by_content, answer_by, OfAnswer, WhereTold}
+use Rattle.fx_make.specs.Made.{found}
+use Rattle.fx_make.specs.Search.{Progress}
+use Rattle.fx_make.specs.Search.Progress.{AllFailed, Found}
+use Rattle.fx_make.specs.declared.refusal.StructureFault.{StructureFault}
+use Rattle.fx_io.specs.Causes.{Rose}
+use Rattle.fx_tool.specs.Make.{made_answer, made_of_bytes, of_found, of_search}
+use Rattle.fx_tool.specs.Placing.{ArePlaced, DeliversAll, PlacesNothing, all_placed, placings, with_placed}
+use Rattle.fx_tool.specs.Running.{plan_of, operands_to, names_to, targets_to, plan_to, answer_of, FollowsWords}
+use Rattle.fx_tool.specs.Running.{Leaves, LeavesFiles, OfWords, PlacesAnswer, placings_of}
+use Rattle.fx_tool.proofs.Placed.{nothing_placed, placings_none}
 use Rattle.fx_tool.specs.Show.{shown}
 use Rattle.fx_tool.specs.Simulate.{outputs, samples_plan}
 use Rattle.fx_tool.specs.Status.{is_spoken}
 use Rattle.fx_tool.specs.Writing.{GrowsBy}
 use Rattle.fx_tool.specs.declared.command.Verb.{Verb}
-use Rattle.fx_tool.specs.declared.command.Verb.TheVariants.{Check, Gain, Report, Show, Simulate}
+use Rattle.fx_tool.specs.declared.command.Verb.TheVariants.{Check, Gain, Make, Report, Show, Simulate}
 use Rattle.fx_tool.specs.declared.judgement.Detail.{Detail}
 use Rattle.fx_tool.specs.declared.judgement.Detail.TheVariants.{Brief, Full}
 use Rattle.fx_tool.specs.declared.operand.Operand.{Operand}
@@ -42,31 +50,30 @@ use Rattle.fx_tool.specs.declared.operand.Operand.TheVariants as operand
 use Rattle.fx_tool.specs.declared.status.Status.{Status}
 use Rattle.fx_tool.specs.declared.status.Status.TheVariants.{ReadFault, NoMemory}
 
--- ---- each answer of a plan has a text of its own, and places nothing
+-- ---- each answer of a plan has a text of its own
 
-record IsSpoken (a : Answer) : Type 0 where
-  status : IsTrue (is_spoken a.status)
-  placed : a.placed ≡ []
+abbrev IsSpoken : Answer → Type 0
+IsSpoken a = IsTrue (is_spoken a.status)
 
 abbrev AllSpoken : Plan → Type 0
 AllSpoken (Ends a) = IsSpoken a
 AllSpoken (Reads next) = (content : List ℕ) → AllSpoken (next content)
 
 shown_spoken : (r : Result Filter FilterFault) → IsSpoken (shown r)
-shown_spoken (Ok filter) = record { status = refl; placed = refl }
-shown_spoken (Err fault) = record { status = refl; placed = refl }
+shown_spoken (Ok filter) = refl
+shown_spoken (Err fault) = refl
 
 outputs_spoken : (r : Result (List ℕ) SampleFault) → IsSpoken (outputs r)
-outputs_spoken (Ok text) = record { status = refl; placed = refl }
-outputs_spoken (Err fault) = record { status = refl; placed = refl }
+outputs_spoken (Ok text) = refl
+outputs_spoken (Err fault) = refl
 
 samples_spoken : (r : Result Code CodeFault) → AllSpoken (samples_plan r)
 samples_spoken (Ok p) = λ samples. outputs_spoken (simulation p samples)
-samples_spoken (Err fault) = record { status = refl; placed = refl }
+samples_spoken (Err fault) = refl
 
 failure_spoken : (r : Option Failure) (errors : List ℤ) → IsSpoken (by_failure r errors)
-failure_spoken None errors = record { status = refl; placed = refl }
-failure_spoken (Some failure) errors = record { status = refl; placed = refl }
+failure_spoken None errors = refl
+failure_spoken (Some failure) errors = refl
 
 judged_spoken : (f : Filter) (p : Code) (c : Certificate) → IsSpoken (judged f p c)
 unfolding judged
@@ -74,8 +81,7 @@ judged_spoken f p c = failure_spoken (first_failure f p c) c.errors
 
 reported_spoken : (f : Filter) (p : Code) (c : Certificate) → IsSpoken (reported f p c)
 unfolding reported
-reported_spoken f p c =
-    let verdict = judged_spoken f p c in record { status = verdict.status; placed = verdict.placed }
+reported_spoken f p c = judged_spoken f p c
 
 told_spoken : (detail : Detail) (f : Filter) (p : Code) (c : Certificate) → IsSpoken (told detail f p c)
 told_spoken Brief f p c = judged_spoken f p c
@@ -84,19 +90,35 @@ told_spoken Full f p c = reported_spoken f p c
 certificate_spoken : (detail : Detail) (f : Filter) (p : Code) (r : Result Certificate CertFault) →
     IsSpoken (certified detail f p r)
 certificate_spoken detail f p (Ok c) = told_spoken detail f p c
-certificate_spoken detail f p (Err fault) = record { status = refl; placed = refl }
+certificate_spoken detail f p (Err fault) = refl
 
 code_spoken : (detail : Detail) (f : Filter) (r : Result Code CodeFault) → AllSpoken (code_plan detail f r)
 code_spoken detail f (Ok p) = λ cert. certificate_spoken detail f p (certificate_in (lines_of cert))
-code_spoken detail f (Err fault) = record { status = refl; placed = refl }
+code_spoken detail f (Err fault) = refl
 
 filter_spoken : (detail : Detail) (r : Result Filter FilterFault) → AllSpoken (filter_plan detail r)
 filter_spoken detail (Ok f) = λ code. code_spoken detail f (code_in code)
-filter_spoken detail (Err fault) = record { status = refl; placed = refl }
+filter_spoken detail (Err fault) = refl
+
+search_spoken : (f : Filter) (p : Progress) → IsSpoken (of_search f p)
+search_spoken f (AllFailed fails) = refl
+search_spoken f (Found c p) = refl
+
+found_spoken : (f : Filter) (r : Result Progress StructureFault) → IsSpoken (of_found f r)
+found_spoken f (Ok p) = search_spoken f p
+found_spoken f (Err why) = refl
+
+answer_spoken : (f : Filter) → IsSpoken (made_answer f)
+unfolding made_answer
+answer_spoken f = found_spoken f (found f)
+
+made_spoken : (r : Result Filter FilterFault) → IsSpoken (made_of_bytes r)
+made_spoken (Ok f) = answer_spoken f
+made_spoken (Err fault) = refl
 
 serving_spoken : (f : Filter) (m : Option ℕ) → IsSpoken (by_serving f m)
-serving_spoken f (Some m) = record { status = refl; placed = refl }
-serving_spoken f None = record { status = refl; placed = refl }
+serving_spoken f (Some m) = refl
+serving_spoken f None = refl
 
 gains_spoken : (f : Filter) → IsSpoken (gains f)
 unfolding gains
@@ -104,17 +126,18 @@ gains_spoken f = serving_spoken f (serving f)
 
 gained_spoken : (r : Result Filter FilterFault) → IsSpoken (gained r)
 gained_spoken (Ok f) = gains_spoken f
-gained_spoken (Err fault) = record { status = refl; placed = refl }
+gained_spoken (Err fault) = refl
 
 verb_spoken : (v : Verb) → AllSpoken (plan_of v)
 verb_spoken Check = λ bytes. filter_spoken Brief (filter_of_bytes bytes)
 verb_spoken Gain = λ bytes. gained_spoken (filter_of_bytes bytes)
+verb_spoken Make = λ bytes. made_spoken (filter_of_bytes bytes)
 verb_spoken Report = λ bytes. filter_spoken Full (filter_of_bytes bytes)
 verb_spoken Show = λ bytes. shown_spoken (filter_of_bytes bytes)
 verb_spoken Simulate = λ bytes. samples_spoken (code_in bytes)
 
 words_spoken : (c : Option Command) → AllSpoken (plan_to c)
-words_spoken None = record { status = refl; placed = refl }
+words_spoken None = refl
 words_spoken (Some c) = verb_spoken c.verb
 
 -- ---- so each answer on files is such, or a file is absent
@@ -123,10 +146,10 @@ abbrev IsUsual : Answer → Type 0
 IsUsual a = IsSpoken a ⊎ (a ≡ absent)
 
 long_spoken : (o : Operand) → IsSpoken (too_long o)
-long_spoken operand.Filter = record { status = refl; placed = refl }
-long_spoken operand.Code = record { status = refl; placed = refl }
-long_spoken operand.Certificate = record { status = refl; placed = refl }
-long_spoken operand.Samples = record { status = refl; placed = refl }
+long_spoken operand.Filter = refl
+long_spoken operand.Code = refl
+long_spoken operand.Certificate = refl
+long_spoken operand.Samples = refl
 
 short_usual : (b : Bool) (next long : Answer) → IsUsual next → IsUsual long → IsUsual (cond b next long)
 short_usual true next long h l = h
@@ -154,21 +177,6 @@ of_plan os names (Ends a) told P h p = p a (inl h)
 of_plan os names (Reads next) None P h p = tt
 of_plan os names (Reads next) (Some files) P h p = p _ (plan_usual os names (Reads next) files h)
 
--- ---- no command places a file
-
-usual_places_nothing : (a : Answer) → IsUsual a → a.placed ≡ []
-usual_places_nothing a (inl s) = s.placed
-usual_places_nothing a (inr e) = ap (λ (a : Answer). a.placed) e
-
-pub places_nothing : (words : List (List ℕ)) (before after : Option Files) (status : Status) → after ≡ before →
-    PlacesAnswer words before after status
-places_nothing words None after status e = tt
-places_nothing words (Some files) after status e =
-    let c = command_of words in
-    λ h. e ∙ ap (λ ps. Some (with_placed ps files))
-    (sym (usual_places_nothing (answer_of words files)
-    (plan_usual (operands_to c) (names_to c) (plan_to c) files (words_spoken c))))
-
 -- ---- faults before the text
 
 grows_nothing : (before : Option (List ℕ)) → GrowsBy [] before before
@@ -185,12 +193,12 @@ silent s (inr e) h = let no : false ≡ true = subst (λ (s : Status). IsTrue (i
 
 -- an absent file says nothing
 fault_says_nothing : (a : Answer) → IsUsual a → ReadFault ≡ a.status → a.text ≡ []
-fault_says_nothing a (inl s) h = absurd (silent a.status (inl (sym h)) s.status)
+fault_says_nothing a (inl s) h = absurd (silent a.status (inl (sym h)) s)
 fault_says_nothing a (inr e) h = ap (λ (a : Answer). a.text) e
 
 -- no answer is want of memory
 memory_is_no_answer : (a : Answer) → IsUsual a → NoMemory ≡ a.status → ⊥
-memory_is_no_answer a (inl s) h = silent a.status (inr (sym h)) s.status
+memory_is_no_answer a (inl s) h = silent a.status (inr (sym h)) s
 memory_is_no_answer a (inr e) h = let e : NoMemory ≡ ReadFault = h ∙ ap (λ (a : Answer). a.status) e in cc
 
 delivers_read_fault : (a : Answer) (before : Option (List ℕ)) → IsUsual a → Delivers a ReadFault before before
@@ -221,6 +229,47 @@ gives_no_memory words told before =
     of_plan (operands_to c) (names_to c) (plan_to c) told (λ a.
     Delivers a NoMemory before before) (words_spoken c) (λ a u. delivers_no_memory a before u)
 
+-- ---- the files of such a run
+
+where_told : (told : Option Files) (P : Files → Type 0) → ((files : Files) → told ≡ Some files → P files) →
+    WhereTold told P
+where_told None P h = tt
+where_told (Some files) P h = h files refl
+
+leaves_all : (words targets : List (List ℕ)) (before after : Outside) → PlacesNothing before after →
+    LeavesFiles words targets before after
+leaves_all words [] before after h = h
+leaves_all words (t ∷ ts) before after h =
+    where_told before.files _ (λ files e.
+    subst (λ told. ArePlaced (placings_of words (answer_of words files))
+    (Rose before.place_faults after.place_faults) before.files told) (sym h.files)
+    (nothing_placed (placings_of words (answer_of words files)) (Rose before.place_faults after.place_faults)
+    before.files))
+
+-- an absent file places nothing
+fault_places_nothing : (a : Answer) → IsUsual a → ReadFault ≡ a.status → a.placed ≡ []
+fault_places_nothing a (inl s) h = absurd (silent a.status (inl (sym h)) s)
+fault_places_nothing a (inr e) h = ap (λ (a : Answer). a.placed) e
+
+usual_answer : (words : List (List ℕ)) (files : Files) → IsUsual (answer_of words files)
+usual_answer words files =
+    let c = command_of words in plan_usual (operands_to c) (names_to c) (plan_to c) files (words_spoken c)
+
+pub places_at_read_fault : (words : List (List ℕ)) (before after : Option Files) → after ≡ before →
+    PlacesAnswer words before after ReadFault
+places_at_read_fault words None after e = tt
+places_at_read_fault words (Some files) after e = λ h.
+    e ∙ ap (λ ps. Some (with_placed ps files))
+    (sym (ap (placings (targets_to (command_of words)))
+    (fault_places_nothing (answer_of words files) (usual_answer words files) h)
+    ∙ placings_none (targets_to (command_of words))))
+
+pub places_at_no_memory : (words : List (List ℕ)) (before after : Option Files) →
+    PlacesAnswer words before after NoMemory
+places_at_no_memory words None after = tt
+places_at_no_memory words (Some files) after = λ h.
+    absurd (memory_is_no_answer (answer_of words files) (usual_answer words files) h)
+
 -- ---- what such a run leaves
 
 pub leaves_read_fault : (words : List (List ℕ)) (shelf shelf' : Outside) (out : Output)
@@ -233,13 +282,16 @@ leaves_read_fault words shelf shelf' out result e f = record {
   read_fault = λ h. f.shelf.cause.failed e;
   write_fault = λ h. cc;
   kept_reads = inr refl;
+  kept_places = inl f.shelf.place_faults;
   kept_writes = inl refl;
   later_reads = f.shelf.cause.later;
+  later_places = omega (arith, f.shelf.place_faults);
   later_writes = omega arith;
-  place_faults = f.shelf.place_faults;
-  files = f.shelf.files;
+  unread = λ h. f.shelf.files;
+  files = leaves_all words (targets_to (command_of words)) shelf shelf'
+      (record { files = f.shelf.files; place_faults = f.shelf.place_faults });
   later = f.shelf.later;
-  calls = f.shelf.few;
+  calls = omega (arith, f.shelf.few);
   names = f.shelf.names;
 }
 
@@ -258,12 +310,106 @@ leaves_no_memory words shelf shelf' out result e f = record {
   read_fault = λ h. cc;
   write_fault = λ h. cc;
   kept_reads = inl (no_fault_counted shelf.read_faults shelf'.read_faults result e f.shelf.cause.kept);
+  kept_places = inl f.shelf.place_faults;
   kept_writes = inl refl;
   later_reads = f.shelf.cause.later;
+  later_places = omega (arith, f.shelf.place_faults);
   later_writes = omega arith;
-  place_faults = f.shelf.place_faults;
-  files = f.shelf.files;
+  unread = λ h. f.shelf.files;
+  files = leaves_all words (targets_to (command_of words)) shelf shelf'
+      (record { files = f.shelf.files; place_faults = f.shelf.place_faults });
   later = f.shelf.later;
-  calls = f.shelf.few;
+  calls = omega (arith, f.shelf.few);
   names = f.shelf.names;
 }
+
+-- ---- what a run leaves that comes to its text
+
+of_answer : (os : List Operand) (names : List (List ℕ)) (plan : Plan) (told : Option Files) (P Q : Answer → Type 0) →
+    ((a : Answer) → P a → Q a) → OfAnswer os names plan told P → OfAnswer os names plan told Q
+of_answer os names (Ends a) told P Q f h = f a h
+of_answer os names (Reads next) None P Q f h = tt
+of_answer os names (Reads next) (Some files) P Q f h = f _ h
+
+told_answer : (os : List Operand) (names : List (List ℕ)) (plan : Plan) (files : Files) (P : Answer → Type 0) →
+    OfAnswer os names plan (Some files) P → P (answer_by os names plan files)
+told_answer os names (Ends a) files P h = h
+told_answer os names (Reads next) files P h = h
+
+-- the answer of an ending is that of the words
+follows_answer : (words : List (List ℕ)) (before now : Outside) (answer : Answer) →
+    FollowsWords words before now (Ok answer) → OfWords words before.files (λ a. a ≡ answer)
+follows_answer words before now answer f = f.answer
+
+is_answer : (words : List (List ℕ)) (told : Option Files) (files : Files) (answer : Answer) → told ≡ Some files →
+    OfWords words told (λ a. a ≡ answer) → answer_of words files ≡ answer
+is_answer words told files answer e h =
+    let c = command_of words in
+    told_answer (operands_to c) (names_to c) (plan_to c) files (λ a. a ≡ answer)
+    (subst (λ told. OfWords words told (λ a. a ≡ answer)) e h)
+
+few_placings : (names contents : List (List ℕ)) → length (placings names contents) ≤ length names
+few_placings [] contents = omega arith
+few_placings (name ∷ names) [] = omega arith
+few_placings (name ∷ names) (content ∷ contents) = omega (arith, few_placings names contents)
+
+leaves_placed : (words targets : List (List ℕ)) (before now after : Outside) (answer : Answer) →
+    now.files ≡ before.files → now.place_faults ≡ before.place_faults →
+    OfWords words before.files (λ a. a ≡ answer) → targets_to (command_of words) ≡ targets →
+    (placings targets answer.placed ≡ [] → PlacesNothing now after) →
+    ArePlaced (placings_of words answer) (Rose now.place_faults after.place_faults) now.files after.files →
+    LeavesFiles words targets before after
+leaves_placed words [] before now after answer same faults is targets none placed =
+    let h = none refl in record { files = h.files ∙ same; place_faults = h.place_faults ∙ faults }
+leaves_placed words (t ∷ ts) before now after answer same faults is targets none placed =
+    where_told before.files _ (λ files e.
+    subst (λ a. ArePlaced (placings_of words a) (Rose before.place_faults after.place_faults) before.files after.files)
+    (sym (is_answer words before.files files answer e is))
+    (subst (λ n. ArePlaced (placings_of words answer) (Rose n after.place_faults) before.files after.files) faults
+    (subst (λ told. ArePlaced (placings_of words answer) (Rose now.place_faults after.place_faults) told after.files)
+    same placed)))
+
+pub leaves_delivered : (words : List (List ℕ)) (before now after : Outside) (out out' : Output) (answer : Answer)
+    (status : Status) → FollowsWords words before now (Ok answer) →
+    DeliversAll answer (placings_of words answer) now after out out' status →
+    Leaves words before after out out' status
+leaves_delivered words before now after out out' answer status f d =
+    let c = command_of words in
+    let few = few_placings (targets_to c) answer.placed in
+    record {
+      answer = of_answer (operands_to c) (names_to c) (plan_to c) before.files (λ a. a ≡ answer)
+          (λ a. Delivers a status out.told out'.told)
+          (λ a e. subst (λ a. Delivers a status out.told out'.told) (sym e) d.answer)
+          (follows_answer words before now answer f);
+      quiet = λ e. absurd (d.spoken e);
+      only = d.only;
+      read_fault = λ e. absurd (d.spoken e);
+      write_fault = λ e. subst (λ n. Rose n after.place_faults ⊎ Rose out.faults out'.faults) f.shelf.place_faults
+          (d.write_fault e);
+      kept_reads = inl (d.read_faults ∙ same_reads f.shelf.cause.kept);
+      kept_places = elim d.kept_places [ inl e ↦ inl (e ∙ f.shelf.place_faults) | inr e ↦ inr e ];
+      kept_writes = d.kept_writes;
+      later_reads = omega (arith, d.read_faults, f.shelf.cause.later);
+      later_places = omega (arith, d.later_places, f.shelf.place_faults);
+      later_writes = d.later_writes;
+      unread = λ e. absurd (d.spoken e);
+      files = leaves_placed words (targets_to c) before now after answer f.shelf.files f.shelf.place_faults
+          (follows_answer words before now answer f) refl d.none d.files;
+      later = omega (arith, d.later, f.shelf.later);
+      calls = omega (arith, d.few, f.shelf.few, few);
+      names = λ q h. d.names q (f.shelf.names q h);
+    }
+  where
+    same_reads : {m n : ℕ} → (n ≡ m) ⊎ (Ok answer ≡ Err io.Failed) → n ≡ m
+    same_reads (inl e) = e
+    same_reads (inr e) = cc
+
+pub places_delivered : (words : List (List ℕ)) (before now after : Outside) (out out' : Output) (answer : Answer)
+    (status : Status) → FollowsWords words before now (Ok answer) →
+    DeliversAll answer (placings_of words answer) now after out out' status →
+    PlacesAnswer words before.files after.files status
+places_delivered words before now after out out' answer status f d =
+    where_told before.files _ (λ files e h.
+    (let is = is_answer words before.files files answer e (follows_answer words before now answer f) in
+    d.whole (h ∙ ap (λ (a : Answer). a.status) is) ∙ ap (all_placed (placings_of words answer)) (f.shelf.files ∙ e)
+    ∙ ap (λ a. Some (with_placed (placings_of words a) files)) (sym is)))

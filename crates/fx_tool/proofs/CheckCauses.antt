@@ -5,31 +5,35 @@ use Rattle.std.proofs.lemmas.Bool.{le-leb}
 use Rattle.std.specs.FinMap.{get}
 use Rattle.fx_io.specs.Shelf.{Files}
 use Rattle.fx_files.proofs.HeldFilter.{file_law}
+use Rattle.fx_files.specs.Describes.{IsFileOf}
 use Rattle.fx_files.specs.Filter.{Filter}
 use Rattle.fx_files.specs.Reading.{filter_of_bytes}
 use Rattle.fx_keys.specs.declared.fault.FilterFault.{FilterFault}
 use Rattle.fx_text.proofs.CodeLaws.{code_law}
+use Rattle.fx_text.specs.Grammar.{Spells}
 use Rattle.fx_text.specs.Reading.{code_in}
 use Rattle.fx_text.specs.declared.fault.CodeFault.{CodeFault}
 use Rattle.fx_code.specs.Code.{Code}
-use Rattle.fx_cert.specs.Certificate.{Certificate}
+use Rattle.fx_cert.specs.Certificate.{Certificate, IsTextOf}
 use Rattle.fx_cert.specs.Laws.{CertificateLaw}
 use Rattle.fx_cert.specs.Lines.{lines_of}
 use Rattle.fx_cert.specs.Reading.{certificate_in}
 use Rattle.fx_cert.specs.declared.fault.CertFault.{CertFault}
 use Rattle.fx_block.specs.Certified.{NoneFails}
 use Rattle.fx_block.specs.Failure.{Failure, first_failure}
+use Rattle.fx_block.specs.Passes.{Passes}
 use Rattle.fx_lines.specs.Verdict.{accepted_lines}
 use Rattle.fx_tool.specs.Answer.{Answer, absent, says}
-use Rattle.fx_tool.specs.Check.{certified, code_plan, filter_plan}
-use Rattle.fx_tool.specs.CheckCauses.{HasFilter, HasCode, HasCertificate, HasAll}
+use Rattle.fx_tool.specs.Check.{certified, check_plan, code_plan, filter_plan}
+use Rattle.fx_tool.specs.CheckCauses.{HasBytes, HasFilter, HasCode, HasCertificate, HasAll}
 use Rattle.fx_tool.specs.CheckCauses.{BadFilterExactly, BadCodeExactly, BadCertificateExactly, RefusedExactly}
 use Rattle.fx_tool.specs.CheckCauses.{PassingIsAccepted}
-use Rattle.fx_tool.specs.Command.{Command}
+use Rattle.fx_tool.specs.Command.{Command, operands_of}
 use Rattle.fx_tool.specs.Judgement.{by_failure, judged}
 use Rattle.fx_tool.specs.Operand.{limit_of, too_long}
 use Rattle.fx_tool.specs.Plan.{Plan, Ends, Reads, by_content, answer_by}
 use Rattle.fx_tool.specs.Running.{answer_of, names_to, operands_to, plan_to}
+use Rattle.fx_tool.specs.declared.command.Verb.TheVariants.{Check}
 use Rattle.fx_tool.specs.declared.judgement.Detail.TheVariants.{Brief}
 use Rattle.fx_tool.specs.declared.operand.Operand.{Operand}
 use Rattle.fx_tool.specs.declared.operand.Operand.TheVariants as operand
@@ -201,6 +205,34 @@ judged_refused : (f : Filter) (p : Code) (c : Certificate) → (first_failure f 
     (judged f p c).status ≡ Refused
 unfolding judged
 judged_refused f p c h = failure_refused (first_failure f p c) c h
+
+-- the three files are those of a filter, a program and a certificate
+pub record HoldAll (files : Files) (filter code cert : List ℕ) (f : Filter) (p : Code) (c : Certificate) : Type 0 where
+  pub filter_bytes : List ℕ
+  pub code_bytes : List ℕ
+  pub cert_bytes : List ℕ
+  pub has_filter : HasBytes files filter filter_bytes
+  pub has_code : HasBytes files code code_bytes
+  pub has_cert : HasBytes files cert cert_bytes
+  pub described : IsFileOf filter_bytes f
+  pub spelled : Spells code_bytes p
+  pub text : IsTextOf cert_bytes c
+
+pub passing_files : CertificateLaw → NoneFails → (files : Files) (filter code cert : List ℕ) (f : Filter) (p : Code)
+    (c : Certificate) → HoldAll files filter code cert f p c → Passes f p c →
+    answer_by (operands_of Check) (filter ∷ code ∷ cert ∷ []) (check_plan Brief) files
+    ≡ says Done (accepted_lines c.errors)
+passing_files law none files filter code cert f p c h passes =
+    reads_on operand.Filter (operand.Code ∷ operand.Certificate ∷ []) filter (code ∷ cert ∷ [])
+    (λ filter. filter_plan Brief (filter_of_bytes filter)) files h.filter_bytes h.has_filter.there h.has_filter.short
+    ∙ ap (after_filter files code cert) ((file_law h.filter_bytes f).1 h.described)
+    ∙ reads_on operand.Code (operand.Certificate ∷ []) code (cert ∷ []) (λ code. code_plan Brief f (code_in code)) files
+    h.code_bytes h.has_code.there h.has_code.short
+    ∙ ap (after_code files cert f) ((code_law h.code_bytes p).1 h.spelled)
+    ∙ reads_on operand.Certificate [] cert [] (λ cert. Ends (certified Brief f p (certificate_in (lines_of cert)))) files
+    h.cert_bytes h.has_cert.there h.has_cert.short
+    ∙ ap (certified Brief f p) ((law h.cert_bytes c).1 h.text)
+    ∙ judged_accepted f p c ((none f p c).1 passes)
 
 pub passing : CertificateLaw → NoneFails → PassingIsAccepted
 passing law none words files filter code cert f p c h passes =

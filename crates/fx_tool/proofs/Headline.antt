@@ -1,8 +1,11 @@
 -- Status 0 is the answer only where the files read as what they stand for; then what status 0 claims follows.
 use Rattle.std.proofs.Common.{◌≡◌, inl, inr, ◌∙◌, ℕ, ℤ, Bool, true, false, List, [], ◌∷◌, length, Option, Some}
 use Rattle.std.proofs.Common.{None, IsSomeAnd, Result, Ok, Err, IsOkAnd, refl, sym, ap, ap₂, subst, nat_le, cond, ◌++◌}
+use Rattle.std.proofs.Common.{◌≤◌}
+use Rattle.std.proofs.lemmas.Bool.{leb-true}
 use Rattle.std.specs.FinMap.{get}
 use Rattle.std.specs.Option.{option_or}
+use Rattle.std.specs.Prelude.{option_and_then}
 use Rattle.fx_io.specs.Shelf.{Files}
 use Rattle.fx_files.proofs.HeldFilter.{file_law}
 use Rattle.fx_files.specs.Describes.{IsFileOf}
@@ -12,15 +15,17 @@ use Rattle.fx_keys.specs.declared.fault.FilterFault.{FilterFault}
 use Rattle.fx_text.proofs.CodeLaws.{code_law}
 use Rattle.fx_text.specs.Grammar.{Spells}
 use Rattle.fx_text.specs.Reading.{code_in}
+use Rattle.fx_text.specs.Writing.{code_text}
 use Rattle.fx_text.specs.declared.fault.CodeFault.{CodeFault}
 use Rattle.fx_sim.specs.Simulation.{simulation}
 use Rattle.fx_sim.specs.declared.fault.SampleFault.{SampleFault}
 use Rattle.fx_code.specs.Code.{Code}
-use Rattle.fx_cert.specs.Certificate.{Certificate, IsTextOf}
+use Rattle.fx_cert.specs.Certificate.{Certificate, IsTextOf, text_of}
 use Rattle.fx_cert.specs.Laws.{CertificateLaw}
 use Rattle.fx_cert.specs.Lines.{lines_of}
 use Rattle.fx_cert.specs.Reading.{certificate_in}
 use Rattle.fx_cert.specs.declared.fault.CertFault.{CertFault}
+use Rattle.fx_block.specs.Certified.{NoneFails}
 use Rattle.fx_block.specs.Failure.{Failure, first_failure, form_failure, range_failure}
 use Rattle.fx_block.specs.Sound.{IsSound}
 use Rattle.fx_check.specs.Report.{known_parts, parts_of, parts_unless}
@@ -30,21 +35,28 @@ use Rattle.fx_gain.specs.Lengths.{original_net}
 use Rattle.fx_lines.specs.Filter.{filter_lines}
 use Rattle.fx_lines.specs.Report.{report_lines}
 use Rattle.fx_lines.specs.Verdict.{accepted_lines}
+use Rattle.fx_tool.proofs.CheckCauses.{passing_files}
+use Rattle.fx_tool.proofs.Making.{read_done}
+use Rattle.fx_tool.proofs.TwoPlaced.{Apart, Hold, three_names, two_placed}
 use Rattle.fx_tool.specs.Answer.{Answer, absent, Delivers}
 use Rattle.fx_tool.specs.Check.{certified, check_plan, code_plan, filter_plan, Headline}
 use Rattle.fx_tool.specs.Check.{CertificateIsSound, CodeIsSound, FilterIsSound, FilesAreSound}
-use Rattle.fx_tool.specs.Command.{Command, command_of, operands_of}
+use Rattle.fx_tool.specs.Command.{Command, command_of, names_fit, operands_of, targets_of, verb_of, with_names}
 use Rattle.fx_tool.specs.Gain.{by_serving, gained, gains, gains_text, serving, BytesEnclose, Gains, GainsEnclose}
+use Rattle.fx_tool.specs.Made.{made_certificate, made_program}
+use Rattle.fx_tool.specs.Make.{FilterIsServed, IsServed, Makes, Serves, made_of_bytes}
+use Rattle.fx_tool.specs.Placing.{placings, with_placed}
 use Rattle.fx_tool.specs.Judgement.{by_failure, judged, parts_text, passing_lines, reported, told}
 use Rattle.fx_tool.specs.Operand.{limit_of, too_long}
 use Rattle.fx_tool.specs.Plan.{Plan, Ends, Reads, by_content, answer_by, OfAnswer}
+use Rattle.fx_tool.specs.Running.{PlacesAnswer, answer_of, placings_of, targets_to}
 use Rattle.fx_tool.specs.Running.{plan_of, operands_to, names_to, plan_to, OfWords, Claims, DoneClaims}
 use Rattle.fx_tool.specs.Running.{Establishes, EstablishesTo, EstablishesWords}
 use Rattle.fx_tool.specs.Show.{shown, Shows}
 use Rattle.fx_tool.specs.Simulate.{outputs, samples_plan, Simulates}
 use Rattle.fx_tool.specs.Writing.{GrowsBy}
 use Rattle.fx_tool.specs.declared.command.Verb.{Verb}
-use Rattle.fx_tool.specs.declared.command.Verb.TheVariants.{Check, Gain, Report, Show, Simulate}
+use Rattle.fx_tool.specs.declared.command.Verb.TheVariants.{Check, Gain, Make, Report, Show, Simulate}
 use Rattle.fx_tool.specs.declared.judgement.Detail.{Detail}
 use Rattle.fx_tool.specs.declared.judgement.Detail.TheVariants.{Brief, Full}
 use Rattle.fx_tool.specs.declared.operand.Operand.{Operand}
@@ -68,35 +80,43 @@ short_done : (b : Bool) (next long : Answer) → (long.status ≡ Done → ⊥) 
 short_done true next long l h = refl
 short_done false next long l h = absurd (l h)
 
+is_short : (b : Bool) (next long : Answer) → (long.status ≡ Done → ⊥) → (cond b next long).status ≡ Done → b ≡ true
+is_short true next long l h = refl
+is_short false next long l h = absurd (l h)
+
 content_done : (o : Operand) (c : Option (List ℕ)) (next : List ℕ → Answer) →
     (by_content o absent (too_long o) next c).status ≡ Done
-    → (content : List ℕ) × (c ≡ Some content) × (by_content o absent (too_long o) next c ≡ next content)
+    → (content : List ℕ) × (c ≡ Some content) × (length content ≤ limit_of o)
+    × (by_content o absent (too_long o) next c ≡ next content)
 content_done o None next h = cc
 content_done o (Some content) next h = (
   content,
   refl,
+  leb-true (length content) (limit_of o)
+      (is_short (nat_le (length content) (limit_of o)) (next content) (too_long o) (long_refused o) h),
   short_done (nat_le (length content) (limit_of o)) (next content) (too_long o)
       (long_refused o) h,
 )
 
 -- the first file of a plan, and what is behind it
-record IsRead (os : List Operand) (names : List (List ℕ)) (next : List ℕ →
+record IsRead (o : Operand) (os : List Operand) (names : List (List ℕ)) (next : List ℕ →
     Plan) (files : Files) (answer : Answer) : Type 0 where
   name : List ℕ
   others : List (List ℕ)
   bytes : List ℕ
   is : names ≡ name ∷ others
   there : get files name ≡ Some bytes
+  short : length bytes ≤ limit_of o
   same : answer ≡ answer_by os others (next bytes) files
 
 is_read : (o : Operand) (os : List Operand) (names : List (List ℕ)) (next : List ℕ → Plan) (files : Files)
     → (answer_by (o ∷ os) names (Reads next) files).status ≡ Done →
-    IsRead os names next files (answer_by (o ∷ os) names (Reads next) files)
+    IsRead o os names next files (answer_by (o ∷ os) names (Reads next) files)
 is_read o os [] next files h = cc
 is_read o os (name ∷ others) next files h =
-    let (bytes, there, same) =
+    let (bytes, there, short, same) =
     content_done o (get files name) (λ content. answer_by os others (next content) files) h in
-    record { name = name; others = others; bytes = bytes; is = refl; there = there; same = same }
+    record { name = name; others = others; bytes = bytes; is = refl; there = there; short = short; same = same }
 
 there : (o : Option (List ℕ)) (bytes : List ℕ) (P : List ℕ → Type 0) → o ≡ Some bytes → P bytes → IsSomeAnd o P
 there o bytes P e h = rw e h
@@ -395,14 +415,108 @@ gain_done files names before after h shown grows =
 
 -- ---- each command
 
-verb_done : CertificateLaw → (v : Verb) (names : List (List ℕ)) (files : Files) (before after : Option (List ℕ)) →
+-- the names of a command fit it
+fitting : (b : Bool) (v : Verb) (names : List (List ℕ)) (c : Command) →
+    cond b (Some (record { verb = v; names = names })) None ≡ Some c → names_fit v names ≡ b →
+    names_fit c.verb c.names ≡ true
+fitting true v names c e fit =
+    let same : record { verb = v; names = names } ≡ c = cc in
+    subst (λ (c : Command). names_fit c.verb c.names ≡ true) same fit
+fitting false v names c e fit = cc
+
+-- ---- `make`
+
+-- of three files, the second and the third as they are placed
+made : CertificateLaw → NoneFails → (files files' : Files) (filter code cert : List ℕ) (before after : Option (List ℕ)) →
+    Apart filter code cert →
+    (answer_by (operands_of Make) (filter ∷ code ∷ cert ∷ []) (plan_of Make) files).status ≡ Done →
+    Establishes Make (filter ∷ code ∷ cert ∷ []) (Some files)
+    → GrowsBy (answer_by (operands_of Make) (filter ∷ code ∷ cert ∷ []) (plan_of Make) files).text before after →
+    files' ≡ with_placed (placings (code ∷ cert ∷ [])
+    (answer_by (operands_of Make) (filter ∷ code ∷ cert ∷ []) (plan_of Make) files).placed) files →
+    Makes files' filter code cert before after
+made law none files files' filter code cert before after apart h served grows left =
+    let (bytes, found, short, same) = content_done operand.Filter (get files filter)
+    (λ bytes. made_of_bytes (filter_of_bytes bytes)) h in
+    let read = read_done (filter_of_bytes bytes) (along _ _ same h) in
+    let f = read.filter in
+    let c = read.made.candidate in
+    let p = read.made.passing in
+    let answer = same ∙ read.made.same in
+    let serves : Serves f c p = of_value (filter_of_bytes bytes) f IsServed read.read
+    (of_file (get files filter) bytes FilterIsServed found served) c p read.made.first in
+    let hold = subst (λ (m : Files). Hold files m filter code cert (code_text (made_program f p))
+    (text_of (made_certificate f c.length p)))
+    (sym (left ∙ ap (λ (a : Answer). with_placed (placings (code ∷ cert ∷ []) a.placed) files) answer))
+    (two_placed files filter code cert (code_text (made_program f p)) (text_of (made_certificate f c.length p)) apart) in
+    let described = (file_law bytes f).0 read.read in
+    let first = hold.first_kept ∙ found in
+    record {
+      filter = f;
+      candidate = c;
+      passing = p;
+      filter_file = there (get files' filter) bytes (λ bytes. IsFileOf bytes f) first described;
+      first = read.made.first;
+      code_text = there (get files' code) _ (λ bytes. Spells bytes (made_program f p)) hold.second_there
+          serves.spelled;
+      certificate_text = there (get files' cert) _ (λ bytes. IsTextOf bytes (made_certificate f c.length p))
+          hold.third_there serves.text;
+      passes = serves.passes;
+      sound = serves.sound;
+      accepted = ap (λ (a : Answer). a.status) (passing_files law none files' filter code cert f (made_program f p)
+          (made_certificate f c.length p) (record {
+            filter_bytes = bytes;
+            code_bytes = code_text (made_program f p);
+            cert_bytes = text_of (made_certificate f c.length p);
+            has_filter = record { there = first; short = short };
+            has_code = record { there = hold.second_there; short = serves.short.0 };
+            has_cert = record { there = hold.third_there; short = serves.short.1 };
+            described = described;
+            spelled = serves.spelled;
+            text = serves.text;
+          }) serves.passes);
+      printed = subst (λ (t : List ℕ). GrowsBy t before after) (ap (λ (a : Answer). a.text) answer) grows;
+    }
+
+-- where it ends with 0, its files are as it claims
+make_done : CertificateLaw → NoneFails → (files files' : Files) (names : List (List ℕ))
+    (before after : Option (List ℕ)) → names_fit Make names ≡ true →
+    (answer_by (operands_of Make) names (plan_of Make) files).status ≡ Done → Establishes Make names (Some files)
+    → GrowsBy (answer_by (operands_of Make) names (plan_of Make) files).text before after →
+    files' ≡ with_placed (placings (targets_of Make names)
+    (answer_by (operands_of Make) names (plan_of Make) files).placed) files → Claims Make names files' before after
+make_done law none files files' names before after fit =
+    let three = three_names names fit in
+    subst (λ (names : List (List ℕ)).
+    (answer_by (operands_of Make) names (plan_of Make) files).status ≡ Done → Establishes Make names (Some files)
+    → GrowsBy (answer_by (operands_of Make) names (plan_of Make) files).text before after →
+    files' ≡ with_placed (placings (targets_of Make names)
+    (answer_by (operands_of Make) names (plan_of Make) files).placed) files → Claims Make names files' before after)
+    (sym three.are) (made law none files files' three.first three.second three.third before after three.apart)
+
+-- a command that places nothing leaves its files
+kept : (v : Verb) (names : List (List ℕ)) (files files' : Files) (before after : Option (List ℕ)) →
+    files' ≡ files → Claims v names files before after → Claims v names files' before after
+kept v names files files' before after left h = subst (λ (f : Files). Claims v names f before after) (sym left) h
+
+verb_done : CertificateLaw → NoneFails → (v : Verb) (names : List (List ℕ)) (files files' : Files)
+    (before after : Option (List ℕ)) → names_fit v names ≡ true →
     (answer_by (operands_of v) names (plan_of v) files).status ≡ Done → Establishes v names (Some files)
-    → GrowsBy (answer_by (operands_of v) names (plan_of v) files).text before after → Claims v names files before after
-verb_done law Check names files before after h shown grows = check_done law files names before after h shown grows
-verb_done law Gain names files before after h shown grows = gain_done files names before after h shown grows
-verb_done law Report names files before after h shown grows = report_done law files names before after h shown grows
-verb_done law Show names files before after h shown grows = show_done files names before after h grows
-verb_done law Simulate names files before after h shown grows = simulate_done files names before after h grows
+    → GrowsBy (answer_by (operands_of v) names (plan_of v) files).text before after →
+    files' ≡ with_placed (placings (targets_of v names) (answer_by (operands_of v) names (plan_of v) files).placed) files
+    → Claims v names files' before after
+verb_done law none Check names files files' before after fit h shows grows left =
+    kept Check names files files' before after left (check_done law files names before after h shows grows)
+verb_done law none Gain names files files' before after fit h shows grows left =
+    kept Gain names files files' before after left (gain_done files names before after h shows grows)
+verb_done law none Make names files files' before after fit h shows grows left =
+    make_done law none files files' names before after fit h shows grows left
+verb_done law none Report names files files' before after fit h shows grows left =
+    kept Report names files files' before after left (report_done law files names before after h shows grows)
+verb_done law none Show names files files' before after fit h shows grows left =
+    kept Show names files files' before after left (show_done files names before after h grows)
+verb_done law none Simulate names files files' before after fit h shows grows left =
+    kept Simulate names files files' before after left (simulate_done files names before after h grows)
 
 -- a status 0 is the answer's
 answered : (a : Answer) (before after : Option (List ℕ)) → Delivers a Done before after → a.status ≡ Done
@@ -418,21 +532,47 @@ told_answer : (os : List Operand) (names : List (List ℕ)) (plan : Plan) (files
 told_answer os names (Ends a) files P h = h
 told_answer os names (Reads next) files P h = h
 
-command_done : CertificateLaw → (c : Option Command) (files : Files) (before after : Option (List ℕ)) →
-    EstablishesTo c (Some files) →
+-- the names of the words' command fit it
+verb_fits : (v : Option Verb) (names : List (List ℕ)) (c : Command) →
+    option_and_then (with_names names) v ≡ Some c → names_fit c.verb c.names ≡ true
+verb_fits None names c e = cc
+verb_fits (Some v) names c e = fitting (names_fit v names) v names c e refl
+
+words_fit : (words : List (List ℕ)) (c : Command) → command_of words ≡ Some c → names_fit c.verb c.names ≡ true
+unfolding command_of
+words_fit [] c e = cc
+words_fit (program ∷ []) c e = cc
+words_fit (program ∷ word ∷ names) c e = verb_fits (verb_of word) names c e
+
+command_done : CertificateLaw → NoneFails → (c : Option Command) →
+    ((d : Command) → c ≡ Some d → names_fit d.verb d.names ≡ true) →
+    (files files' : Files) (before after : Option (List ℕ)) → EstablishesTo c (Some files) →
     OfAnswer (operands_to c) (names_to c) (plan_to c) (Some files) (λ a. Delivers a Done before after)
-    → IsSomeAnd c (λ c. Claims c.verb c.names files before after)
-command_done law None files before after shown h =
+    → (Done ≡ (answer_by (operands_to c) (names_to c) (plan_to c) files).status →
+    files' ≡ with_placed (placings (targets_to c)
+    (answer_by (operands_to c) (names_to c) (plan_to c) files).placed) files)
+    → IsSomeAnd c (λ c. Claims c.verb c.names files' before after)
+command_done law none None fits files files' before after shows h left =
     absurd (let e : Usage ≡ Done = answered (answer_by [] [] (plan_to None) files) before after h in cc)
-command_done law (Some c) files before after shown h =
+command_done law none (Some c) fits files files' before after shows h left =
     let given = told_answer (operands_of c.verb) c.names (plan_of c.verb) files (λ a. Delivers a Done before after) h in
     let done = answered (answer_by (operands_of c.verb) c.names (plan_of c.verb) files) before after given in
-    verb_done law c.verb c.names files before after done shown (given.whole (sym done))
+    verb_done law none c.verb c.names files files' before after (fits c refl) done shows (given.whole (sym done))
+    (left (sym done))
 
-pub done_claims : CertificateLaw → (words : List (List ℕ)) (told : Option Files) (status : Status)
+files_there : (o : Option Files) (files : Files) (P : Files → Type 0) → o ≡ Some files → P files → IsSomeAnd o P
+files_there o files P e h = rw e h
+
+pub done_claims : CertificateLaw → NoneFails → (words : List (List ℕ)) (told told' : Option Files) (status : Status)
     (before after : Option (List ℕ)) → status ≡ Done → EstablishesWords words told →
-    OfWords words told (λ a. Delivers a status before after) → DoneClaims words told before after
-done_claims law words None status before after e shown h = tt
-done_claims law words (Some files) status before after e shown h =
-    command_done law (command_of words) files before after shown (subst (λ (s : Status).
-    OfWords words (Some files) (λ a. Delivers a s before after)) e h)
+    OfWords words told (λ a. Delivers a status before after) → PlacesAnswer words told told' status →
+    DoneClaims words told told' before after
+done_claims law none words None told' status before after e shows h left = tt
+done_claims law none words (Some files) told' status before after e shows h left =
+    let c = command_of words in
+    let given = subst (λ (s : Status). OfWords words (Some files) (λ a. Delivers a s before after)) e h in
+    let done = answered (answer_of words files) before after
+    (told_answer (operands_to c) (names_to c) (plan_to c) files (λ a. Delivers a Done before after) given) in
+    let files' = with_placed (placings_of words (answer_of words files)) files in
+    files_there told' files' (λ f. IsSomeAnd c (λ d. Claims d.verb d.names f before after)) (left (e ∙ sym done))
+    (command_done law none c (words_fit words) files files' before after shows given (λ d. refl))

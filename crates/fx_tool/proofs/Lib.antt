@@ -3,5 +3,9 @@ pub mod CheckCauses
 pub mod Followed
 pub mod Gains
 pub mod Headline
+pub mod Listed
+pub mod Making
+pub mod Placed
 pub mod ReadSoFar
+pub mod TwoPlaced
 pub mod WrittenSoFar

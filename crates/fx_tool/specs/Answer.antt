@@ -4,10 +4,10 @@ use Rattle.fx_tool.specs.Writing.{GrowsBy, GrowsByPrefix}
 use Rattle.fx_tool.specs.declared.status.Status.{Status}
 use Rattle.fx_tool.specs.declared.status.Status.TheVariants.{Done, ReadFault, WriteFault, NoMemory}
 
--- the names that are placed come with their contents
+-- of the files that are placed, the contents, in the order of their names
 pub record Answer : Type 0 where
   pub status : Status
-  pub placed : List (List ℕ × List ℕ)
+  pub placed : List (List ℕ)
   pub text : List ℕ
 
 -- nothing is placed

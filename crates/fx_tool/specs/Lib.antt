@@ -5,7 +5,10 @@ pub mod Command
 pub mod Ending
 pub mod Gain
 pub mod Judgement
+pub mod Made
+pub mod Make
 pub mod Operand
+pub mod Placing
 pub mod Plan
 pub mod Reading
 pub mod Refused

@@ -1,21 +1,23 @@
 -- What a run of a command line promises.
-use Rattle.std.specs.Prelude.{◌≡◌, ◌⊎◌, ℕ, ◌+◌, ◌≤◌, List, [], ◌∷◌, ◌++◌, codes, Option, Some, None, Result}
+use Rattle.std.specs.Prelude.{◌≡◌, ◌⊎◌, ℕ, ◌+◌, ◌≤◌, List, [], ◌∷◌, ◌++◌, codes, take, length, Option, Some, None, Result}
 use Rattle.std.specs.Prelude.{IsSomeAnd, ⊤}
-use Rattle.std.specs.FinMap.{insert}
 use Rattle.fx_io.specs.Causes.{Rose}
 use Rattle.fx_io.specs.Outside.{Outside, Output}
 use Rattle.fx_io.specs.Shelf.{Files, KeepsNames}
 use Rattle.fx_io.specs.declared.shelf.IoFault.{IoFault}
 use Rattle.fx_tool.specs.Answer.{Answer, says, Delivers}
 use Rattle.fx_tool.specs.Check.{check_plan, FilesAreSound, Headline}
-use Rattle.fx_tool.specs.Command.{Command, command_of, operands_of}
+use Rattle.fx_tool.specs.Command.{Command, command_of, operands_of, targets_of}
 use Rattle.fx_tool.specs.Gain.{gain_plan, FileEncloses, Gains}
+use Rattle.fx_tool.specs.Make.{make_plan, FilterIsServed, Makes}
+use Rattle.fx_tool.specs.Placing.{ArePlaced, PlacesNothing, placings, with_placed}
 use Rattle.fx_tool.specs.Plan.{Plan, Ends, answer_by, plan_calls, Follows, MayRead, OfAnswer, WhereTold}
+use Rattle.fx_tool.specs.Reading.{Has}
 use Rattle.fx_tool.specs.Show.{show_plan, Shows}
 use Rattle.fx_tool.specs.Simulate.{simulate_plan, Simulates}
 use Rattle.fx_tool.specs.Status.{IsBuiltStatus}
 use Rattle.fx_tool.specs.declared.command.Verb.{Verb}
-use Rattle.fx_tool.specs.declared.command.Verb.TheVariants.{Check, Gain, Report, Show, Simulate}
+use Rattle.fx_tool.specs.declared.command.Verb.TheVariants.{Check, Gain, Make, Report, Show, Simulate}
 use Rattle.fx_tool.specs.declared.judgement.Detail.TheVariants.{Brief, Full}
 use Rattle.fx_tool.specs.declared.operand.Operand.{Operand}
 use Rattle.fx_tool.specs.declared.status.Status.{Status}
@@ -26,6 +28,7 @@ use Rattle.fx_tool.specs.declared.status.Status.TheVariants.{Done, Usage, ReadFa
 abbrev pub plan_of : Verb → Plan
 plan_of Check = check_plan Brief
 plan_of Gain = gain_plan
+plan_of Make = make_plan
 plan_of Report = check_plan Full
 plan_of Show = show_plan
 plan_of Simulate = simulate_plan
@@ -34,13 +37,15 @@ plan_of Simulate = simulate_plan
 abbrev pub Establishes : Verb → List (List ℕ) → Option Files → Type 0
 Establishes Check (filter ∷ code ∷ cert ∷ _) told = FilesAreSound told filter code cert
 Establishes Gain (filter ∷ _) told = FileEncloses told filter
+Establishes Make (filter ∷ _) told = Has told filter FilterIsServed
 Establishes Report (filter ∷ code ∷ cert ∷ _) told = FilesAreSound told filter code cert
 Establishes _ _ told = ⊤
 
--- what status 0 claims, of the files of these names and of the bytes before and after
+-- what status 0 claims, of the files of these names, as the run leaves them, and of the bytes before and after
 abbrev pub Claims : Verb → List (List ℕ) → Files → Option (List ℕ) → Option (List ℕ) → Type 0
 Claims Check (filter ∷ code ∷ cert ∷ _) files before after = Headline Brief files filter code cert before after
 Claims Gain (filter ∷ _) files before after = Gains files filter before after
+Claims Make (filter ∷ code ∷ cert ∷ _) files before after = Makes files filter code cert before after
 Claims Report (filter ∷ code ∷ cert ∷ _) files before after = Headline Full files filter code cert before after
 Claims Show (filter ∷ _) files before after = Shows files filter before after
 Claims Simulate (code ∷ samples ∷ _) files before after = Simulates files code samples before after
@@ -61,13 +66,21 @@ abbrev pub names_to : Option Command → List (List ℕ)
 names_to None = []
 names_to (Some c) = c.names
 
+-- those that are read, and those that are placed
+abbrev pub reads_to : Option Command → List (List ℕ)
+reads_to c = take (length (operands_to c)) (names_to c)
+
+abbrev pub targets_to : Option Command → List (List ℕ)
+targets_to None = []
+targets_to (Some c) = targets_of c.verb c.names
+
 abbrev pub plan_to : Option Command → Plan
 plan_to None = Ends (says Usage usage_line)
 plan_to (Some c) = plan_of c.verb
 
--- the files that the words name may be read
+-- the files that are read may be read
 abbrev pub CanRead : Outside → List (List ℕ) → Type 0
-CanRead outside words = MayRead outside (names_to (command_of words))
+CanRead outside words = MayRead outside (reads_to (command_of words))
 
 -- the answer of the words on these files
 abbrev pub answer_of : List (List ℕ) → Files → Answer
@@ -96,43 +109,55 @@ EstablishesWords words told = EstablishesTo (command_of words) told
 
 -- ---- a run
 
--- the files with what was placed
-abbrev pub with_placed : List (List ℕ × List ℕ) → Files → Files
-with_placed [] files = files
-with_placed (p ∷ ps) files = with_placed ps (insert files p.0 p.1)
+-- what an answer places of the words
+abbrev pub placings_of : List (List ℕ) → Answer → List (List ℕ × List ℕ)
+placings_of words a = placings (targets_to (command_of words)) a.placed
 
 -- with the answer's status the files are the old ones with those that it places
 abbrev pub PlacesAnswer : List (List ℕ) → Option Files → Option Files → Status → Type 0
 PlacesAnswer words before after status =
     WhereTold before (λ files. status ≡ (answer_of words files).status →
-    after ≡ Some (with_placed (answer_of words files).placed files))
+    after ≡ Some (with_placed (placings_of words (answer_of words files)) files))
 
--- what status 0 claims, where the shelf tells its files
-abbrev pub DoneClaims : List (List ℕ) → Option Files → Option (List ℕ) → Option (List ℕ) → Type 0
-DoneClaims words told before after =
-    WhereTold told (λ files. IsSomeAnd (command_of words) (λ c. Claims c.verb c.names files before after))
+-- A command without names to place places nothing. Else the first few of the answer's files were placed, one after
+-- another, and where a placing failed, that file may hold anything.
+abbrev pub LeavesFiles : List (List ℕ) → List (List ℕ) → Outside → Outside → Type 0
+LeavesFiles words [] before after = PlacesNothing before after
+LeavesFiles words targets before after =
+    WhereTold before.files (λ files.
+    ArePlaced (placings_of words (answer_of words files)) (Rose before.place_faults after.place_faults)
+    before.files after.files)
+
+-- what status 0 claims, where the shelf tells its files before the run: it tells them after it too, and of those the
+-- command's claim holds
+abbrev pub DoneClaims : List (List ℕ) → Option Files → Option Files → Option (List ℕ) → Option (List ℕ) → Type 0
+DoneClaims words told told' before after =
+    WhereTold told (λ files. IsSomeAnd told' (λ files'.
+    IsSomeAnd (command_of words) (λ c. Claims c.verb c.names files' before after)))
 
 -- What a run gives, and leaves of shelf and output. The status and the text are those of the answer, or a read, a write
--- or memory failed; a fault was counted just where it is the status. The shelf was only read, in no more calls than the
--- plan takes.
+-- or memory failed; a fault was counted just where it is the status. Files are read in no more calls than the plan takes,
+-- and each is placed in one.
 pub record Leaves (words : List (List ℕ)) (shelf shelf' : Outside) (out out' : Output) (status : Status) : Type 0 where
   pub answer : OfWords words shelf.files (λ a. Delivers a status out.told out'.told)
   pub quiet : status ≡ ReadFault → out'.told ≡ out.told
   pub only : IsBuiltStatus status
   pub read_fault : status ≡ ReadFault → Rose shelf.read_faults shelf'.read_faults
-  pub write_fault : status ≡ WriteFault → Rose out.faults out'.faults
+  pub write_fault : status ≡ WriteFault → Rose shelf.place_faults shelf'.place_faults ⊎ Rose out.faults out'.faults
   pub kept_reads : (shelf'.read_faults ≡ shelf.read_faults) ⊎ (status ≡ ReadFault)
+  pub kept_places : (shelf'.place_faults ≡ shelf.place_faults) ⊎ (status ≡ WriteFault)
   pub kept_writes : (out'.faults ≡ out.faults) ⊎ (status ≡ WriteFault)
   pub later_reads : shelf.read_faults ≤ shelf'.read_faults
+  pub later_places : shelf.place_faults ≤ shelf'.place_faults
   pub later_writes : out.faults ≤ out'.faults
-  pub place_faults : shelf'.place_faults ≡ shelf.place_faults
-  pub files : shelf'.files ≡ shelf.files
+  pub unread : status ≡ ReadFault → shelf'.files ≡ shelf.files
+  pub files : LeavesFiles words (targets_to (command_of words)) shelf shelf'
   pub later : shelf.calls ≤ shelf'.calls
-  pub calls : shelf'.calls ≤ shelf.calls + calls_of words shelf.files
+  pub calls : shelf'.calls ≤ shelf.calls + calls_of words shelf.files + length (targets_to (command_of words))
   pub names : KeepsNames shelf.readable shelf'.readable
 
 -- The same, with the files that the answer places; and status 0 keeps what its command claims.
 pub record Runs (words : List (List ℕ)) (shelf shelf' : Outside) (out out' : Output) (status : Status) : Type 0 where
-  pub done : status ≡ Done → DoneClaims words shelf.files out.told out'.told
+  pub done : status ≡ Done → DoneClaims words shelf.files shelf'.files out.told out'.told
   pub placed : PlacesAnswer words shelf.files shelf'.files status
   pub leaves : Leaves words shelf shelf' out out' status

@@ -31,6 +31,7 @@ is_spoken BadCertificate = true
 is_spoken BadSamples = true
 is_spoken NoDesign = true
 is_spoken TooLong = true
+is_spoken Unbuildable = true
 is_spoken _ = false
 
 -- the statuses after which nothing more is put

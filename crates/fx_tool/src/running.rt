@@ -1,5 +1,5 @@
 //! A run of a command line.
-ghost use Rattle.std.specs.Prelude.{◌≡◌, length};
+ghost use Rattle.std.specs.Prelude.{◌≡◌, ◌+◌, length, take};
 ghost use Rattle.fx_tool.specs.Answer.{WhereDone};
 ghost use Rattle.fx_tool.specs.CheckCauses.{
   BadCertificateExactly,
@@ -8,15 +8,17 @@ ghost use Rattle.fx_tool.specs.CheckCauses.{
   PassingIsAccepted,
   RefusedExactly,
 };
-ghost use Rattle.fx_tool.specs.Command.{operands_of, texts};
+ghost use Rattle.fx_tool.specs.Command.{command_of, operands_of, target_count, texts};
 ghost use Rattle.fx_tool.specs.Plan.{Follows, MayRead};
 ghost use Rattle.fx_tool.specs.Running.{
   plan_of,
+  targets_to,
   CanRead,
   Establishes,
   EstablishesWords,
   FollowsWords,
   Leaves,
+  PlacesAnswer,
   Runs,
 };
 
@@ -25,6 +27,7 @@ use crate::command::{Verb, command_of};
 use crate::ending::Ending;
 use crate::gain::gain;
 use crate::judgement::Detail;
+use crate::make::make_files;
 use crate::show::show;
 use crate::simulate::simulate;
 use crate::status::Status;
@@ -45,8 +48,8 @@ fn command_ending<S: Shelf>(
     names: &[String],
     shelf: &mut S,
 ) -> Result<Ending, IoFault>
-    requires count { length names.now ≡ length (operands_of verb) }
-    requires readable { MayRead (S.seen shelf.old) (texts names.now) }
+    requires count { length names.now ≡ length (operands_of verb) + target_count verb }
+    requires readable { MayRead (S.seen shelf.old) (take (length (operands_of verb)) (texts names.now)) }
     ensures follows { Follows (operands_of verb) (texts names.now) (plan_of verb)
         (S.seen shelf.old) (S.seen shelf.new) result }
     ensures establishes { WhereDone result (Establishes verb (texts names.now) (S.seen shelf.old).files) }
@@ -63,6 +66,7 @@ fn command_ending<S: Shelf>(
             )
         }
         (Verb::Gain, [filter]) => gain(alloc, filter.as_str(), shelf),
+        (Verb::Make, [filter, _, _]) => make_files(alloc, filter.as_str(), shelf),
         (Verb::Report, [filter, code, cert]) => {
             check(
                 alloc,
@@ -93,34 +97,49 @@ fn ending<S: Shelf>(alloc: Global, words: &[String], shelf: &mut S) -> Result<En
     }
 }
 
+// The names of the files that a command line places.
+fn targets(words: &[String]) -> &[String]
+    ensures { texts result.now ≡ targets_to (command_of (texts words.now)) }
+{
+    match command_of(words) {
+        Some(command) => command.verb.targets(command.names),
+        None => &[],
+    }
+}
+
 // Runs a command line, and gives the answer of its words and files.
 fn answer<S: Shelf, K: Sink>(alloc: Global, words: &[String], shelf: &mut S, out: &mut K) -> Status
     requires { CanRead (S.seen shelf.old) (texts words.now) }
     ensures leaves { Leaves (texts words.now) (S.seen shelf.old) (S.seen shelf.new)
         (K.seen out.old) (K.seen out.new) result }
+    ensures placed { PlacesAnswer (texts words.now) (S.seen shelf.old).files (S.seen shelf.new).files result }
     ensures establishes { result ≡ Status.Done → EstablishesWords (texts words.now) (S.seen shelf.old).files }
 {
     match ending(alloc, words, shelf) {
-        Ok(ending) => ending.put(out),
+        Ok(ending) => ending.deliver(targets(words), shelf, out),
         Err(IoFault::Failed) => Status::ReadFault,
         Err(IoFault::NoMemory) => Status::NoMemory,
     }
 }
 
-/// Runs a command line: the program's name, a command and its operands. It reads the files that the words name and puts
-/// a text; what it gives is the answer of the words and the files, unless a read, a write or memory fails. Then nothing
-/// is put after a failed read, and the first bytes of the text after a failed write or want of memory.
+/// Runs a command line: the program's name, a command and its operands. It reads and places the files that the words
+/// name and puts a text; what it gives is the answer of the words and the files, unless a read, a write or memory
+/// fails. Then nothing is put after a failed read, and the first bytes of the text after a failed write or want of
+/// memory. Files are placed one after another before the first byte is put; after a failed write or want of memory the
+/// first may stand alone.
 ///
 /// With `Done` of `check` and of `report`: for every list of input words within the filter's bounds, of any length,
 /// every row of the code ends with the exact sum in its accumulator, every stored word lies in its format, and every
 /// output differs from the filter's exact output by at most the certificate's error, which is the one printed. With
-/// `Done` of the other commands: the files were read as what they stand for, and all of that was put.
+/// `Done` of `make` the same holds of the code and the certificate that it placed. With `Done` of the other commands:
+/// the files were read as what they stand for, and all of that was put.
 pub fn run<S: Shelf, K: Sink>(alloc: Global, words: &[String], shelf: &mut S, out: &mut K) -> Status
     requires { CanRead (S.seen shelf.old) (texts words.now) }
     ensures { Runs (texts words.now) (S.seen shelf.old) (S.seen shelf.new)
         (K.seen out.old) (K.seen out.new) result }
 {
     certificate_is_read_exactly();
+    none_fails_where_all_hold();
     answer(alloc, words, shelf, out)
 }
 

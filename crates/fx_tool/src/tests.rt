@@ -2,10 +2,10 @@
 ghost use Rattle.std.specs.Prelude.{◌≡◌, ◌∷◌, [], IfOk, IsTrue, codes};
 ghost use Rattle.std.specs.FinMap as map;
 ghost use Rattle.fx_tool.specs.Command.{command_of, texts};
-ghost use Rattle.fx_tool.specs.Running.{names_to};
+ghost use Rattle.fx_tool.specs.Running.{reads_to};
 
 use crate::{Status, run};
-use fx_io::{MemShelf, MemSink, SureShelf, SureSink};
+use fx_io::{MemShelf, MemSink, Shelf, SureShelf, SureSink};
 use std::alloc::{AllocError, Global};
 use std::test::Fail;
 
@@ -46,7 +46,7 @@ const ACCEPTED: &[u8] = b"accepted\nerror 0 0.500000000\n";
 // The words of `check` on the files f, c and k.
 #[tactic(auto, unfolding(crate::specs::Command::command_of, crate::specs::Command::verb_in))]
 fn check_words(alloc: Global) -> Result<Vec<String>, AllocError>
-    ensures { IfOk result (λ words. names_to (command_of (texts words.items))
+    ensures { IfOk result (λ words. reads_to (command_of (texts words.items))
         ≡ codes "f" ∷ codes "c" ∷ codes "k" ∷ []) }
 {
     let name = String::from_str(alloc, "fixif")?;
@@ -286,6 +286,107 @@ fn finds_gains_by_the_file(rt: HostRuntime) -> Result<(), Fail> {
     Ok(())
 }
 
+// y(k) = u(k) + 0.5 y(k-1), with one grid and one length to try.
+const POLE: &[u8] = b"form = \"tf\"\nb = [\"1\"]\na = [\"1\", \"-0.5\"]\n\
+      inputs = [{ width = 16, bound = 100 }]\noutputs = [{ width = 16, error = \"3\" }]\n\
+      accumulator = 64\nguards = [0]\nfractions = [14]\nlengths = [64]\n";
+
+const POLE_CODE: &[u8] =
+    b"#include \"fixif.h\"\nSTEP(64, 1, 3, 1)\n{\n  IN(u0, 16);\n  a = 1;\n  a += MUL(1, s1, 0);\n\
+      \x20 a += MUL(1, u0, 1);\n  r0 = LOW(SAR(a, 1), 9);\n  a = 0;\n  a += MUL(1, r0, 0);\n\
+      \x20 r1 = LOW(SAR(a, 0), 9);\n  a = 0;\n  a += MUL(1, r0, 0);\n  r2 = LOW(SAR(a, 0), 16);\n\
+      \x20 OUT(0, r2);\n  s0 = r0;\n  s1 = r1;\n  s2 = r2;\n}\n";
+
+const POLE_CERT: &[u8] = b"fixif certificate 1\nlength 64\nrows 4\nX 201\nX 201\nX 201\nX 200\n\
+      outputs 1\nE 18446744073709552016\nend\n";
+
+// Whether the file of this name holds these bytes.
+fn holds(
+    alloc: Global,
+    shelf: &mut MemShelf,
+    name: &str,
+    bytes: &[u8],
+) -> Result<bool, AllocError> {
+    let mut content = vec![in alloc; 0; 1024]?;
+    match shelf.read_at(name, 0, &mut content) {
+        Ok(count) => Ok(content.get(..count) == Some(bytes)),
+        Err(_) => Ok(false),
+    }
+}
+
+#[test]
+fn makes_code_and_certificate(rt: HostRuntime) -> Result<(), Fail> {
+    let alloc = rt.alloc();
+    let words = words_of(alloc, &["fixif", "make", "f", "c", "k"])?;
+    let mut shelf = shelf_of(alloc, &[("f", POLE)])?;
+    let mut out = MemSink::new(alloc)?;
+    assert_eq!(rt; run(alloc, &words, &mut shelf, &mut out), Status::Done);
+    assert_eq!(rt;
+        out.bytes(),
+        b"design 0 14 64\nerror 0 1.000000001\n".as_slice()
+    );
+    assert!(rt; holds(alloc, &mut shelf, "c", POLE_CODE)?);
+    assert!(rt; holds(alloc, &mut shelf, "k", POLE_CERT)?);
+
+    // What was made is accepted.
+    let words = words_of(alloc, &["fixif", "check", "f", "c", "k"])?;
+    let mut out = MemSink::new(alloc)?;
+    assert_eq!(rt; run(alloc, &words, &mut shelf, &mut out), Status::Done);
+    assert_eq!(rt; out.bytes(), b"accepted\nerror 0 1.000000001\n".as_slice());
+    Ok(())
+}
+
+#[test]
+fn a_failed_placing_leaves_the_files_before(rt: HostRuntime) -> Result<(), Fail> {
+    let alloc = rt.alloc();
+    let words = words_of(alloc, &["fixif", "make", "f", "c", "k"])?;
+    let mut shelf = shelf_of(alloc, &[("f", POLE)])?;
+    shelf.fail_place(2)?;
+    let mut out = MemSink::new(alloc)?;
+    assert_eq!(rt;
+        run(alloc, &words, &mut shelf, &mut out),
+        Status::WriteFault
+    );
+    assert!(rt; out.bytes().is_empty());
+    assert!(rt; holds(alloc, &mut shelf, "c", POLE_CODE)?);
+    assert!(rt; !holds(alloc, &mut shelf, "k", POLE_CERT)?);
+    Ok(())
+}
+
+#[test]
+fn tells_why_none_is_made(rt: HostRuntime) -> Result<(), Fail> {
+    let table: [Row<'_>; 3] = [
+        // A sum of all inputs has no end.
+        (
+            &[(
+                "f",
+                b"form = \"tf\"\nb = [\"1\"]\na = [\"1\", \"-1\"]\naccumulator = 64\nguards = [0]\n\
+                  fractions = [14]\nlengths = [64, 256]\ninputs = [{ width = 16, bound = 100 }]\n\
+                  outputs = [{ width = 16, error = \"1\" }]\n",
+            )],
+            Status::NoDesign,
+            b"no design\ncandidate 0 14 64 over row 2 38400 32767\n\
+              candidate 0 14 256 over row 2 51200 32767\n",
+        ),
+        // A pole on the unit circle.
+        (
+            &[(
+                "f",
+                b"form = \"tf\"\nstructure = \"lattice\"\nb = [\"1\"]\na = [\"1\", \"1\"]\n\
+                  inputs = [{ width = 16, bound = 100 }]\noutputs = [{ width = 16, error = \"1\" }]\n",
+            )],
+            Status::Unbuildable,
+            b"unbuildable not below one 1 18446744073709551616 18446744073709551616\n",
+        ),
+        (&[("f", b"x")], Status::BadFilter, b"bad filter not toml\n"),
+    ];
+    assert_eq!(rt;
+        first_wrong(rt.alloc(), &["fixif", "make", "f", "c", "k"], &table)?,
+        None
+    );
+    Ok(())
+}
+
 #[test]
 fn simulates_by_the_files(rt: HostRuntime) -> Result<(), Fail> {
     let table: [Row<'_>; 5] = [
@@ -348,6 +449,8 @@ fn other_words_are_no_command(rt: HostRuntime) -> Result<(), Fail> {
         &["fixif", "show", "-f"],
         &["fixif", "show", "f", "f"],
         &["fixif", "large", "1"],
+        &["fixif", "make", "f", "c", "c"],
+        &["fixif", "make", "f", "f", "k"],
         &[],
     ] {
         assert_eq!(rt; first_wrong(rt.alloc(), words, &table)?, None);

@@ -1,5 +1,4 @@
 use Rattle.fx_tool.specs.Command.{texts}
-use Rattle.fx_tool.proofs.Answering.{places_nothing}
 use Rattle.fx_tool.proofs.Headline.{done_claims}
 use Rattle.fx_tool.proofs.running.run.Goals as goal
 
@@ -11,9 +10,9 @@ returns g c =
     let out = g.K.Sink.seen c.args.out.now in
     let out' = g.K.Sink.seen c.answer.new.out in
     record {
-      done = λ h. done_claims c.certificate_is_read_exactly.ensures words before.files c.answer.result out.told
-          out'.told h (c.answer.ensures.establishes h)
-          c.answer.ensures.leaves.answer;
-      placed = places_nothing words before.files after.files c.answer.result c.answer.ensures.leaves.files;
+      done = λ h. done_claims c.certificate_is_read_exactly.ensures c.none_fails_where_all_hold.ensures words before.files after.files c.answer.result
+          out.told out'.told h (c.answer.ensures.establishes h) c.answer.ensures.leaves.answer
+          c.answer.ensures.placed;
+      placed = c.answer.ensures.placed;
       leaves = c.answer.ensures.leaves;
     }
