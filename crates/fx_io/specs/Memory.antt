@@ -1,9 +1,9 @@
 -- What the forms in memory stand for.
 use Rattle.std.specs.Prelude.{ℕ, ◌+◌, ◌-◌, ◌^◌, suc, zero, Bool, ◌==◌, ◌&&◌, ◌||◌, not, nat_lt, List, [], ◌∷◌}
-use Rattle.std.specs.Prelude.{◌++◌, Some, true, if◌then◌else◌, refl}
+use Rattle.std.specs.Prelude.{◌++◌, Option, None, Some, IfSome, ◌<◌, min, take, true, if◌then◌else◌, refl}
 use Rattle.std.specs.List.{list_any}
 use Rattle.std.specs.FinMap as map
-use Rattle.std.specs.Coded.{Coded, code_by, coded×, coded_ℕ, coded_list}
+use Rattle.std.specs.Coded.{Coded, code_by, coded×, coded_ℕ, coded_list, coded_option}
 use Rattle.fx_io.specs.Causes.{saturated}
 use Rattle.fx_io.specs.Outside.{Outside, Output}
 use Rattle.fx_io.specs.Shelf.{Files}
@@ -50,28 +50,44 @@ calls_code =
 abbrev pub files_code : Coded Files
 files_code = map.code (coded_list coded_ℕ) (coded_list coded_ℕ)
 
--- files, the reads and placings, and how many reads found no file of their name
+-- so many bytes, or as many as a call moves at most, where it moves no more than a piece
+abbrev pub at_most : Option ℕ → ℕ → ℕ
+at_most None count = count
+at_most (Some most) count = min count most
+
+-- a piece of at least one byte, where reads give pieces
+abbrev pub HoldsBytes : Option ℕ → Type 0
+HoldsBytes piece = IfSome piece (λ most. 0 < most)
+
+-- files, the reads and placings, how many reads found no file of their name, and the most bytes of a read, where there is
+-- such a limit
 pub record ShelfState : Type 0 where
   pub files : Files
   pub reads : Calls
   pub places : Calls
   pub absences : ℕ
+  pub piece : Option ℕ
 
--- bytes and the writes
+-- bytes, the writes, how many of them took no byte, and the most bytes of a write, where there is such a limit
 pub record SinkState : Type 0 where
   pub bytes : List ℕ
   pub puts : Calls
+  pub empty_puts : ℕ
+  pub piece : Option ℕ
 
 abbrev pub shelf_code : Coded ShelfState
 shelf_code =
-    code_by (Files × (Calls × (Calls × ℕ))) (coded× files_code (coded× calls_code (coded× calls_code coded_ℕ)))
-    (λ s. (s.files, (s.reads, (s.places, s.absences)))) (λ p.
-    record { files = p.0; reads = p.1.0; places = p.1.1.0; absences = p.1.1.1 }) (λ _. refl)
+    code_by (Files × (Calls × (Calls × (ℕ × Option ℕ))))
+    (coded× files_code (coded× calls_code (coded× calls_code (coded× coded_ℕ (coded_option coded_ℕ)))))
+    (λ s. (s.files, (s.reads, (s.places, (s.absences, s.piece))))) (λ p.
+    record { files = p.0; reads = p.1.0; places = p.1.1.0; absences = p.1.1.1.0; piece = p.1.1.1.1 }) (λ _. refl)
 
 abbrev pub sink_code : Coded SinkState
 sink_code =
-    code_by (List ℕ × Calls) (coded× (coded_list coded_ℕ) calls_code) (λ s. (s.bytes, s.puts)) (λ p.
-    record { bytes = p.0; puts = p.1 }) (λ _. refl)
+    code_by (List ℕ × (Calls × (ℕ × Option ℕ)))
+    (coded× (coded_list coded_ℕ) (coded× calls_code (coded× coded_ℕ (coded_option coded_ℕ))))
+    (λ s. (s.bytes, (s.puts, (s.empty_puts, s.piece)))) (λ p.
+    record { bytes = p.0; puts = p.1.0; empty_puts = p.1.1.0; piece = p.1.1.1 }) (λ _. refl)
 
 -- a read of this name fails next
 abbrev pub read_fails : ShelfState → List ℕ → Bool
@@ -103,8 +119,20 @@ seen_of_shelf s = record {
   readable = λ _. true;
 }
 
+-- a write took the first so many of these bytes
+abbrev pub after_put : SinkState → List ℕ → ℕ → SinkState
+after_put s bytes n =
+    record s {
+      bytes = s.bytes ++ take n bytes;
+      puts = counted s.puts;
+      empty_puts = (if n == 0 then saturated (s.empty_puts + 1) else s.empty_puts);
+    }
+
+abbrev pub write_fault_count : SinkState → ℕ
+write_fault_count s = saturated (fault_count s.puts + s.empty_puts)
+
 abbrev pub seen_of_sink : SinkState → Output
-seen_of_sink s = record { told = Some s.bytes; faults = fault_count s.puts }
+seen_of_sink s = record { told = Some s.bytes; faults = write_fault_count s }
 
 -- ---- without faults
 

@@ -1,5 +1,5 @@
 // Files in memory, seen as a map from names to contents.
-ghost use Rattle.std.specs.Prelude.{◌≡◌, ◌++◌, None, Some, MatchOption, OnOk, OnErr, length, take, drop, min};
+ghost use Rattle.std.specs.Prelude.{◌≡◌, ◌≤◌, ◌++◌, None, Some, MatchOption, OnOk, OnErr, length, take, drop, min};
 ghost use Rattle.std.specs.FinMap as map;
 ghost use Rattle.fx_io.specs.FileList.{files_of};
 
@@ -76,16 +76,17 @@ fn content_of<'a>(files: &'a [MemFile], name: &str) -> Option<&'a [u8]>
     None
 }
 
-/// Copies what fits of a content from a place on.
-pub(crate) fn copy_piece(content: &[u8], from: u64, into: &mut [u8]) -> usize
-    ensures count { result ≡ min (length (drop from content.now)) (length into.old) }
+/// Copies at most so many bytes of a content from a place on.
+pub(crate) fn copy_piece(content: &[u8], from: u64, most: usize, into: &mut [u8]) -> usize
+    requires { most ≤ length into.old }
+    ensures count { result ≡ min (length (drop from content.now)) most }
     ensures bytes { into.new ≡ take result (drop from content.now) ++ drop result into.old }
 {
     if from >= content.len() as u64 {
         return 0;
     }
     let rest = &content[from as usize..];
-    let n = rest.len().min(into.len());
+    let n = rest.len().min(most);
     into[..n].copy_from_slice(&rest[..n]);
     n
 }

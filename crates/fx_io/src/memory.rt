@@ -3,8 +3,10 @@ ghost use Rattle.std.specs.Prelude.{
   ◌≡◌,
   ◌++◌,
   ◌↔◌,
+  ◌<◌,
   [],
   min,
+  None,
   Some,
   true,
   IfOk,
@@ -29,6 +31,8 @@ ghost use Rattle.fx_io.specs.Memory.{
   counted,
   read_fails,
   after_read,
+  at_most,
+  after_put,
   seen_of_shelf,
   seen_of_sink,
 };
@@ -39,28 +43,47 @@ use crate::shelf::{IoFault, Shelf, Sink};
 use std::alloc::{AllocError, Global};
 use std::marker::Model;
 
+// So many bytes, or as many as a piece has, where that is less.
+fn at_most(piece: Option<usize>, count: usize) -> usize
+    ensures { result ≡ at_most piece count }
+{
+    match piece {
+        Some(most) => count.min(most),
+        None => count,
+    }
+}
+
 /// Files in memory. Every name may be read. The calls that were listed fail, and so does each read
-/// of a name that is not there; all others are done.
+/// of a name that is not there; all others are done. A read gives all that fits, or at most a piece.
 #[derive(Drop)]
 pub struct MemShelf {
     files: FileList,
     reads: CallPlan,
     places: CallPlan,
     absences: u64,
+    piece: Option<usize>,
 }
 
 impl Model for MemShelf {
-    ghost use Rattle.fx_io.specs.Memory.{ShelfState, shelf_code};
+    ghost use Rattle.fx_io.specs.Memory.{HoldsBytes, ShelfState, shelf_code};
 
     ghost Value = { ShelfState };
 
     ghost coded = { shelf_code };
 
-    ghost view = { λ s. record { files = s.files; reads = s.reads; places = s.places; absences = s.absences } };
+    ghost view = { λ s. record {
+      files = s.files;
+      reads = s.reads;
+      places = s.places;
+      absences = s.absences;
+      piece = s.piece;
+    } };
+
+    ghost invariant = { λ s. HoldsBytes s.piece };
 }
 
 impl MemShelf {
-    /// A shelf without files, on which no call fails.
+    /// A shelf without files, on which no call fails and a read gives all that fits.
     ///
     /// # Errors
     ///
@@ -69,9 +92,9 @@ impl MemShelf {
         ensures { IsOkAnd result (λ s. s ≡ record {
           files = map.empty;
           reads = no_calls;
-          places =
-              no_calls;
+          places = no_calls;
           absences = 0;
+          piece = None;
         }) }
     {
         Ok(MemShelf {
@@ -79,6 +102,7 @@ impl MemShelf {
             reads: CallPlan::new(alloc),
             places: CallPlan::new(alloc),
             absences: 0,
+            piece: None,
         })
     }
 
@@ -117,6 +141,14 @@ impl MemShelf {
     {
         self.places.fail(call)
     }
+
+    /// Lets a read give at most so many bytes from now on, at least one.
+    pub fn piece(&mut self, most: usize)
+        requires { 0 < most }
+        ensures { self.new ≡ record self.old { piece = Some most } }
+    {
+        self.piece = Some(most);
+    }
 }
 
 impl Shelf for MemShelf {
@@ -126,16 +158,19 @@ impl Shelf for MemShelf {
         ensures fails { IsErr result ↔ IsTrue (read_fails self.old name.now) }
         ensures fault { IfErr result (λ e. e ≡ Failed) }
         ensures after { self.new ≡ after_read self.old name.now }
-        // As many bytes as there are and as fit.
+        // As many bytes as there are and as fit, or as a piece has.
         ensures count { IfOk result (λ n. IsSomeAnd (map.get self.old.files name.now)
-            (λ content. n ≡ min (length (drop from content)) (length into.new))) }
+            (λ content. n ≡ min (length (drop from content)) (at_most self.old.piece (length into.new)))) }
         ensures bytes { IfOk result (λ n. ReadsPiece (Some self.old.files) name.now from into.new n) }
     {
         if self.reads.next() {
             return Err(IoFault::Failed);
         }
         match self.files.get(name) {
-            Some(content) => Ok(copy_piece(content, from, into)),
+            Some(content) => {
+                let most = at_most(self.piece, into.len());
+                Ok(copy_piece(content, from, most, into))
+            }
             None => {
                 self.absences = self.absences.saturating_add(1);
                 Err(IoFault::Failed)
@@ -158,11 +193,14 @@ impl Shelf for MemShelf {
     }
 }
 
-/// Bytes in memory. The calls that were listed fail; all others are done.
+/// Bytes in memory. The calls that were listed fail; all others are done. A write takes all of its
+/// bytes, or at most a piece.
 #[derive(Drop)]
 pub struct MemSink {
     bytes: Vec<u8>,
     puts: CallPlan,
+    empty_puts: u64,
+    piece: Option<usize>,
 }
 
 impl Model for MemSink {
@@ -172,21 +210,28 @@ impl Model for MemSink {
 
     ghost coded = { sink_code };
 
-    ghost view = { λ s. record { bytes = s.bytes.items; puts = s.puts } };
+    ghost view = { λ s. record {
+      bytes = s.bytes.items;
+      puts = s.puts;
+      empty_puts = s.empty_puts;
+      piece = s.piece;
+    } };
 }
 
 impl MemSink {
-    /// A sink that holds nothing, on which no call fails.
+    /// A sink that holds nothing, on which no call fails and a write takes all of its bytes.
     ///
     /// # Errors
     ///
     /// None: a sink that holds nothing takes no memory.
     pub fn new(alloc: Global) -> Result<MemSink, AllocError>
-        ensures { IsOkAnd result (λ s. s ≡ record { bytes = []; puts = no_calls }) }
+        ensures { IsOkAnd result (λ s. s ≡ record { bytes = []; puts = no_calls; empty_puts = 0; piece = None }) }
     {
         Ok(MemSink {
             bytes: Vec::new(alloc),
             puts: CallPlan::new(alloc),
+            empty_puts: 0,
+            piece: None,
         })
     }
 
@@ -202,6 +247,14 @@ impl MemSink {
         self.puts.fail(call)
     }
 
+    /// Lets a write take at most so many bytes from now on. With 0 each write takes none, and is
+    /// counted as a fault.
+    pub fn piece(&mut self, most: usize)
+        ensures { self.new ≡ record self.old { piece = Some most } }
+    {
+        self.piece = Some(most);
+    }
+
     /// What was put.
     pub fn bytes(&self) -> &[u8]
         ensures { result.now ≡ self.now.bytes }
@@ -215,14 +268,18 @@ impl Sink for MemSink {
 
     fn put(&mut self, bytes: &[u8]) -> Result<usize, IoFault>
         ensures fails { IsErrOf result Failed ↔ IsTrue (next_fails self.old.puts) }
-        ensures done { IfOk result (λ n. (n ≡ length bytes.now)
-            × (self.new ≡ record { bytes = self.old.bytes ++ bytes.now; puts = counted self.old.puts })) }
+        ensures done { IfOk result (λ n. (n ≡ at_most self.old.piece (length bytes.now))
+            × (self.new ≡ after_put self.old bytes.now n)) }
         ensures refused { OnErr result (self.new ≡ record self.old { puts = counted self.old.puts }) }
     {
         if self.puts.next() {
             return Err(IoFault::Failed);
         }
-        self.bytes.extend_from_slice(bytes)?;
-        Ok(bytes.len())
+        let count = at_most(self.piece, bytes.len());
+        self.bytes.extend_from_slice(&bytes[..count])?;
+        if count == 0 {
+            self.empty_puts = self.empty_puts.saturating_add(1);
+        }
+        Ok(count)
     }
 }

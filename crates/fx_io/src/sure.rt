@@ -83,7 +83,7 @@ impl Shelf for SureShelf {
         ensures same { self.new ≡ self.old }
     {
         match self.files.get(name) {
-            Some(content) => Ok(copy_piece(content, from, into)),
+            Some(content) => Ok(copy_piece(content, from, into.len(), into)),
             None => unreachable!(),
         }
     }

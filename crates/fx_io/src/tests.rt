@@ -57,6 +57,21 @@ fn listed_calls_fail(rt: HostRuntime) -> Result<(), Fail> {
 }
 
 #[test]
+fn pieces_bound_reads_and_writes(rt: HostRuntime) -> Result<(), Fail> {
+    let mut shelf = MemShelf::new(rt.alloc())?;
+    let mut out = MemSink::new(rt.alloc())?;
+    shelf.add("f", b"signal")?;
+    shelf.piece(2);
+    assert_eq!(rt; pass_on(&mut shelf, &mut out, "f"), Ok(2));
+    out.piece(1);
+    assert_eq!(rt; pass_on(&mut shelf, &mut out, "f"), Ok(1));
+    out.piece(0);
+    assert_eq!(rt; pass_on(&mut shelf, &mut out, "f"), Ok(0));
+    assert_eq!(rt; out.bytes(), b"igi".as_slice());
+    Ok(())
+}
+
+#[test]
 fn sure_forms_do_each_call(rt: HostRuntime) -> Result<(), Fail> {
     let mut shelf = SureShelf::new(rt.alloc())?;
     let mut out = SureSink::new(rt.alloc())?;
