@@ -1,0 +1,12 @@
+//! Fractions with what their products need kept beside them, so that a product with a number below 2^64 takes neither a
+//! division nor a table.
+#![tactic(auto)]
+
+mod products;
+mod ratio;
+mod ratios;
+#[cfg(test)]
+mod tests;
+
+pub use ratio::Ratio;
+pub use ratios::Ratios;

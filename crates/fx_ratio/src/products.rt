@@ -1,0 +1,68 @@
+//! Products of a number below 2^64 with a fraction whose ratio is at hand, rounded down and up.
+
+ghost use Rattle.std.specs.Prelude.{◌≡◌, ◌+◌, ◌*◌, ◌/◌, ◌^◌, ◌<◌, ◌≤◌, ◌*ℤ◌, unsigned_abs};
+ghost use Rattle.std.specs.Int.{div_ceil};
+ghost use Rattle.fx_math.specs.Division.{floor_div, ceil_div};
+ghost use Rattle.fx_nums.specs.declared.limits.TheConstants.{PRODUCT_BITS};
+ghost use Rattle.fx_ratio.specs.Kept.{IsRatio};
+
+// `x * ratio / 2^64` rounded down.
+#[inline]
+fn guess_of(x: u64, ratio: u128) -> u128
+    requires { ratio < 2 ^ 88 }
+    ensures { result ≡ x * ratio / 2 ^ 64 }
+{
+    let (whole, part) = (ratio >> u64::BITS, ratio % (1 << u64::BITS));
+    u128::from(x) * whole + (u128::from(x) * part >> u64::BITS)
+}
+
+// `x * mag / den` rounded down, and what is left.
+#[inline]
+#[tactic(auto, using(crate::proofs::Guesses::guess_below, crate::proofs::Guesses::ratio_in))]
+fn parts(x: u64, mag: u64, den: u128, ratio: u128) -> (u128, u128)
+    requires { IsRatio mag den ratio }
+    ensures parts { result.0 * den + result.1 ≡ x * mag }
+    ensures rest { result.1 < den }
+{
+    let guess = guess_of(x, ratio);
+    let rest = u128::from(x) * u128::from(mag) - guess * den;
+    if rest >= den {
+        (guess + 1, rest - den)
+    } else {
+        (guess, rest)
+    }
+}
+
+// `x * mag / den` rounded down and rounded up.
+#[inline]
+#[tactic(auto, using(crate::proofs::Guesses::quotient_is, crate::proofs::Guesses::rest_is))]
+fn magnitudes(x: u64, mag: u64, den: u128, ratio: u128) -> (u128, u128)
+    requires { IsRatio mag den ratio }
+    ensures floor { result.0 ≡ x * mag / den }
+    ensures ceil { result.1 ≡ div_ceil (x * mag) den }
+    ensures floor_in { result.0 < 2 ^ PRODUCT_BITS }
+    ensures ceil_in { result.1 ≤ 2 ^ PRODUCT_BITS }
+{
+    let (floor, rest) = parts(x, mag, den, ratio);
+    if rest == 0 {
+        (floor, floor)
+    } else {
+        (floor, floor + 1)
+    }
+}
+
+// `w * num / den` rounded down and rounded up, from the ratio of the magnitude of `num`.
+#[inline]
+pub(crate) fn small_ends(w: i128, num: i64, den: u128, ratio: u128) -> (i128, i128)
+    requires small { unsigned_abs w < 2 ^ 64 }
+    requires kept { IsRatio (unsigned_abs num) den ratio }
+    ensures floor { result.0 ≡ floor_div (w *ℤ num) den }
+    ensures ceil { result.1 ≡ ceil_div (w *ℤ num) den }
+{
+    let (floor, ceil) = magnitudes(w.unsigned_abs() as u64, num.unsigned_abs(), den, ratio);
+    if (w < 0) != (num < 0) {
+        (-(ceil as i128), -(floor as i128))
+    } else {
+        (floor as i128, ceil as i128)
+    }
+}

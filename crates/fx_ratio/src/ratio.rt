@@ -1,0 +1,79 @@
+ghost use Rattle.std.specs.Prelude.{◌≡◌, ◌^◌, ◌<◌, unsigned_abs};
+ghost use Rattle.fx_nums.specs.Arithmetic.{multiple};
+ghost use Rattle.fx_nums.specs.Fraction.{den_value};
+ghost use Rattle.fx_nums.specs.Products.{IsRoundedProduct};
+
+use crate::products::small_ends;
+use fx_nums::{FACTOR_BITS, Frac, Iv, mul_ends};
+use std::marker::Model;
+
+/// A fraction with its denominator as a number and its magnitude times 2^64, rounded down, kept beside it.
+#[derive(Clone, Copy)]
+pub struct Ratio {
+    fraction: Frac,
+    den: u128,
+    // 2^64 times the magnitude, rounded down.
+    ratio: u128,
+}
+
+impl Model for Ratio {
+    ghost use Rattle.fx_nums.specs.Fraction.{Fraction, den_value};
+    ghost use Rattle.fx_ratio.specs.Kept.{IsKept, ratio_of};
+
+    ghost Value = { Fraction };
+
+    ghost view = { λ r. r.fraction };
+
+    ghost invariant = { λ r. IsKept r.fraction r.den r.ratio };
+
+    ghost inverse = { λ v. record { fraction = v; den = den_value v.den; ratio = ratio_of v } };
+
+    ghost inverse_ok = { λ a h. rw (← h.ratio_is, ← h.den_is) (λ i. a) };
+}
+
+impl Ratio {
+    /// Of a fraction. This takes one division; the products take none.
+    pub fn new(fraction: Frac) -> Ratio
+        ensures { result ≡ fraction }
+    {
+        let den = fraction.den().value();
+        let magnitude = u128::from(fraction.num().unsigned_abs());
+        Ratio {
+            fraction,
+            den,
+            ratio: (magnitude << u64::BITS) / den,
+        }
+    }
+
+    /// The fraction.
+    pub fn fraction(self) -> Frac
+        ensures { result ≡ self }
+    {
+        self.fraction
+    }
+
+    /// `w` times the fraction, rounded down and rounded up: what `fx_nums::mul_ends` answers. A `w` of 2^64 or more in
+    /// magnitude takes as long as there.
+    #[inline]
+    pub fn mul_ends(self, w: i128) -> (i128, i128)
+        requires { unsigned_abs w < 2 ^ FACTOR_BITS }
+        ensures { IsRoundedProduct w self.num (den_value self.den) result.0 result.1 }
+    {
+        if w.unsigned_abs() < 1 << u64::BITS {
+            small_ends(w, self.fraction.num(), self.den, self.ratio)
+        } else {
+            mul_ends(w, self.fraction)
+        }
+    }
+
+    /// The product of `w / 2^64` with the fraction, rounded outward: what `Iv::multiple` answers.
+    #[inline]
+    pub fn multiple(self, w: i128) -> Iv
+        requires { unsigned_abs w < 2 ^ FACTOR_BITS }
+        ensures ends { result ≡ multiple w self }
+        ensures rounded { IsRoundedProduct w self.num (den_value self.den) result.lo result.hi }
+    {
+        let (low, high) = self.mul_ends(w);
+        Iv::point(low).hull(Iv::point(high))
+    }
+}
