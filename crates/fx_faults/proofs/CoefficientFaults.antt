@@ -110,7 +110,7 @@ unfolding each_monic
 sections_fault k place (b0 ∷ b1 ∷ b2 ∷ a0 ∷ a1 ∷ a2 ∷ cs) f h told =
     in_step (unless (NotMonic k (place + 3)) (is_one a0)) (λ u. each_monic k (place + 6) cs) f h
     (λ wrong. let (test, e) = test_err (NotMonic k (place + 3)) f (is_one a0) wrong in told 0 3 a0 refl refl test e)
-    (λ u one h1. sections_fault k (place + 6) cs f h1 (λ s n c is there test e.
+    (λ u one past_one. sections_fault k (place + 6) cs f past_one (λ s n c is there test e.
     let next : suc (suc (suc (suc (suc (suc n))))) ≡ 6 * suc s + 3 = omega arith in
     let at : place + 6 + n ≡ place + suc (suc (suc (suc (suc (suc n))))) = omega arith in
     told (suc s) (suc (suc (suc (suc (suc (suc n)))))) c next there test
@@ -148,11 +148,11 @@ polynomial_true : (file : Members) (k : Key) (f : FilterFault) → IsListKey fil
 unfolding polynomial_in
 polynomial_true file k f of required other limited h =
     in_step (entries_in k file) _ f h (entries_true file k f of required)
-    (λ vs got h1.
+    (λ vs got past_got.
     let list = entries_listed k file vs got in
-    in_step (some k vs) _ f h1 (some_true file k vs f other (count_at file k vs list))
-    (λ u any h2. in_step (at_most k vs) _ f h2 (most_true file k kind.Numeral vs f of list limited)
-    (λ u few h3. numerals_true file k vs f of list h3)))
+    in_step (some k vs) _ f past_got (some_true file k vs f other (count_at file k vs list))
+    (λ u any past_any. in_step (at_most k vs) _ f past_any (most_true file k kind.Numeral vs f of list limited)
+    (λ u few past_few. numerals_true file k vs f of list past_few)))
 
 -- the list at a key, and what its entries mean
 IsRead : Members → Key → List Fraction → Type 0
@@ -161,10 +161,10 @@ IsRead file k cs = (vs : Items) × IsListed k file vs × Each IsNumeralOf cs vs
 polynomial_read : (file : Members) (k : Key) (cs : List Fraction) → polynomial_in k file ≡ Ok cs → IsRead file k cs
 unfolding polynomial_in IsRead
 polynomial_read file k cs h =
-    let (vs, got, h1) = bind_ok (entries_in k file) _ cs h in
-    let (u1, any, h2) = bind_ok (some k vs) _ cs h1 in
-    let (u2, few, h3) = bind_ok (at_most k vs) _ cs h2 in
-    (vs, entries_listed k file vs got, numerals_entries k 0 vs cs h3)
+    let (vs, got, past_got) = bind_ok (entries_in k file) _ cs h in
+    let (u1, any, past_any) = bind_ok (some k vs) _ cs past_got in
+    let (u2, few, past_few) = bind_ok (at_most k vs) _ cs past_any in
+    (vs, entries_listed k file vs got, numerals_entries k 0 vs cs past_few)
 
 transfer_true : (file : Members) (f : FilterFault) → HoldsForm file form.Tf → transfer_in file ≡ Err f → IsTrueOf file f
 unfolding transfer_in IsRead
@@ -175,16 +175,16 @@ transfer_true file f named h =
     record { own = refl; is = refl; entry = λ n v x. x; past = λ got limit x. x } in
     in_step (polynomial_in key.B file) _ f h
     (polynomial_true file key.B f b named (λ e. absurd cc) (lit≤ tt))
-    (λ bs above h1. in_step (polynomial_in key.A file) _ f h1
+    (λ bs above past_above. in_step (polynomial_in key.A file) _ f past_above
     (polynomial_true file key.A f a named (λ e. absurd cc) (lit≤ tt))
-    (λ cs below h2. in_step (monic key.A 0 cs) _ f h2
+    (λ cs below past_below. in_step (monic key.A 0 cs) _ f past_below
     (λ wrong. monic_fault key.A 0 cs f wrong (λ c there test e.
     let (vs, list, each) = polynomial_read file key.A cs below in
     let all = flat_map (entries_of kind.Numeral) (listed vs) in
     let (x, at, means) = means_at 0 cs all c (mean_row cs vs each) there in
     one_true file key.A 0 list.value all x c f refl list.there (λ n v y. y)
     (ap (λ (v : Data). entries_of (ListOf kind.Numeral) v) (is_array list.value vs list.list)) at means test e))
-    (λ u one h3. absurd cc)))
+    (λ u one past_one. absurd cc)))
 
 -- ---- sections
 
@@ -197,13 +197,13 @@ cascade_true file f named h =
     let k = key.Sections in
     let of = rows_key file in
     in_step (rows_in k file) _ f h (rows_true file k f of named)
-    (λ vs got h1.
+    (λ vs got past_got.
     let list = rows_listed k file vs got in
-    in_step (some k vs) _ f h1 (some_true file k vs f (λ e. absurd cc) (count_at file k vs list))
-    (λ u any h2. in_step (at_most k vs) _ f h2 (most_true file k (ListOf kind.Numeral) vs f of list (lit≤ tt))
-    (λ u few h3. in_step (matrix k SECTION_COEFFICIENTS vs) _ f h3
+    in_step (some k vs) _ f past_got (some_true file k vs f (λ e. absurd cc) (count_at file k vs list))
+    (λ u any past_any. in_step (at_most k vs) _ f past_any (most_true file k (ListOf kind.Numeral) vs f of list (lit≤ tt))
+    (λ u few past_few. in_step (matrix k SECTION_COEFFICIENTS vs) _ f past_few
     (matrix_true file k SECTION_COEFFICIENTS vs f of list refl)
-    (λ cs read h4. in_step (each_monic k 0 cs) _ f h4
+    (λ cs read past_read. in_step (each_monic k 0 cs) _ f past_read
     (λ wrong. sections_fault k 0 cs f wrong (λ s n c is there test e.
     let r = matrix_read k SECTION_COEFFICIENTS vs cs read in
     let all = flat_map (entries_of (ListOf kind.Numeral)) (listed vs) in
@@ -214,7 +214,7 @@ cascade_true file f named h =
     one_true file k n list.value all x c f (s, is) list.there (λ n v y. y)
     (ap (λ (v : Data). entries_of (ListOf (ListOf kind.Numeral)) v) (is_array list.value vs list.list)) at
     means test (subst (λ (p : ℕ). NotMonic k p ≡ f) place e)))
-    (λ u one h5. absurd cc)))))
+    (λ u one past_one. absurd cc)))))
 
 -- ---- state space
 
@@ -225,12 +225,12 @@ block_true : (file : Members) (k : Key) (height width : ℕ) (f : FilterFault) �
 unfolding matrix_in
 block_true file k height width f named of required other high wide h =
     in_step (rows_in k file) _ f h (rows_true file k f of required)
-    (λ vs got h1.
+    (λ vs got past_got.
     let list = rows_listed k file vs got in
-    in_step (some k vs) _ f h1 (some_true file k vs f other (count_at file k vs list))
-    (λ u any h2. in_step (exactly k height vs) _ f h2
+    in_step (some k vs) _ f past_got (some_true file k vs f other (count_at file k vs list))
+    (λ u any past_any. in_step (exactly k height vs) _ f past_any
     (exactly_true file form.Ss k height vs f named (count_at file k vs list) high)
-    (λ u exact h3. matrix_true file k width vs f of list wide h3)))
+    (λ u exact past_exact. matrix_true file k width vs f of list wide past_exact)))
 
 states_true : (file : Members) (f : FilterFault) → HoldsForm file form.Ss →
     IsListKey file key.MatA (ListOf kind.Numeral) → state_rows file ≡ Err f → IsTrueOf file f
@@ -238,18 +238,18 @@ unfolding state_rows
 states_true file f named of h =
     let k = key.MatA in
     in_step (rows_in k file) _ f h (rows_true file k f of named)
-    (λ vs got h1.
+    (λ vs got past_got.
     let list = rows_listed k file vs got in
-    in_step (some k vs) _ f h1 (some_true file k vs f (λ e. absurd cc) (count_at file k vs list))
-    (λ u any h2. in_step (at_most k vs) _ f h2 (most_true file k (ListOf kind.Numeral) vs f of list (lit≤ tt))
-    (λ u few h3. absurd cc)))
+    in_step (some k vs) _ f past_got (some_true file k vs f (λ e. absurd cc) (count_at file k vs list))
+    (λ u any past_any. in_step (at_most k vs) _ f past_any (most_true file k (ListOf kind.Numeral) vs f of list (lit≤ tt))
+    (λ u few past_few. absurd cc)))
 
 states_at : (file : Members) (vs : Items) → state_rows file ≡ Ok vs → IsListed key.MatA file vs
 unfolding state_rows
 states_at file vs h =
-    let (ws, got, h1) = bind_ok (rows_in key.MatA file) _ vs h in
-    let (u1, any, h2) = bind_ok (some key.MatA ws) _ vs h1 in
-    let (u2, few, same) = bind_ok (at_most key.MatA ws) _ vs h2 in
+    let (ws, got, past_got) = bind_ok (rows_in key.MatA file) _ vs h in
+    let (u1, any, past_any) = bind_ok (some key.MatA ws) _ vs past_got in
+    let (u2, few, same) = bind_ok (at_most key.MatA ws) _ vs past_any in
     subst (IsListed key.MatA file) (same_ok ws vs same) (rows_listed key.MatA file ws got)
 
 space_true : (m p : ℕ) (file : Members) (f : FilterFault) → HoldsForm file form.Ss → HasCount file key.Inputs m →
@@ -265,18 +265,18 @@ space_true m p file f named ins outs h =
     let d : IsListKey file key.MatD (ListOf kind.Numeral) =
     record { own = refl; is = refl; entry = λ n v x. x; past = λ got limit x. x } in
     in_step (state_rows file) _ f h (states_true file f named a)
-    (λ vs got h1.
+    (λ vs got past_got.
     let list = states_at file vs got in
     let n = item_count vs in
     let states : HasCount file key.MatA n = count_at file key.MatA vs list in
-    in_step (matrix key.MatA n vs) _ f h1 (matrix_true file key.MatA n vs f a list states)
-    (λ xs h2 h3. in_step (matrix_in key.MatB n m file) _ f h3
+    in_step (matrix key.MatA n vs) _ f past_got (matrix_true file key.MatA n vs f a list states)
+    (λ xs first past_xs. in_step (matrix_in key.MatB n m file) _ f past_xs
     (block_true file key.MatB n m f named b named (λ e. absurd cc) states ins)
-    (λ bs h4 h5. in_step (matrix_in key.MatC p n file) _ f h5
+    (λ bs second past_bs. in_step (matrix_in key.MatC p n file) _ f past_bs
     (block_true file key.MatC p n f named c named (λ e. absurd cc) outs states)
-    (λ cs h6 h7. in_step (matrix_in key.MatD p m file) _ f h7
+    (λ cs third past_cs. in_step (matrix_in key.MatD p m file) _ f past_cs
     (block_true file key.MatD p m f named d named (λ e. absurd cc) outs ins)
-    (λ ds h8 h9. absurd cc)))))
+    (λ ds fourth past_ds. absurd cc)))))
 
 -- ---- lattice
 
@@ -285,18 +285,18 @@ reflections_true : (file : Members) (f : FilterFault) → HoldsForm file form.La
 unfolding reflections_in
 reflections_true file f named of h =
     in_step (entries_in key.K file) _ f h (entries_true file key.K f of named)
-    (λ vs got h1.
+    (λ vs got past_got.
     let list = entries_listed key.K file vs got in
-    in_step (at_most key.K vs) _ f h1 (most_true file key.K kind.Numeral vs f of list (lit≤ tt))
-    (λ u few h2. numerals_true file key.K vs f of list h2))
+    in_step (at_most key.K vs) _ f past_got (most_true file key.K kind.Numeral vs f of list (lit≤ tt))
+    (λ u few past_few. numerals_true file key.K vs f of list past_few))
 
 reflections_count : (file : Members) (ks : List Fraction) → reflections_in file ≡ Ok ks →
     HasCount file key.K (length ks)
 unfolding reflections_in
 reflections_count file ks h =
-    let (vs, got, h1) = bind_ok (entries_in key.K file) _ ks h in
-    let (u, few, h2) = bind_ok (at_most key.K vs) _ ks h1 in
-    subst (HasCount file key.K) (count_of IsNumeralOf ks vs (numerals_entries key.K 0 vs ks h2))
+    let (vs, got, past_got) = bind_ok (entries_in key.K file) _ ks h in
+    let (u, few, past_few) = bind_ok (at_most key.K vs) _ ks past_got in
+    subst (HasCount file key.K) (count_of IsNumeralOf ks vs (numerals_entries key.K 0 vs ks past_few))
     (count_at file key.K vs (entries_listed key.K file vs got))
 
 taps_true : (n : ℕ) (file : Members) (f : FilterFault) → HoldsForm file form.Lattice → HasCount file key.K n →
@@ -304,12 +304,12 @@ taps_true : (n : ℕ) (file : Members) (f : FilterFault) → HoldsForm file form
 unfolding taps_in
 taps_true n file f named order of h =
     in_step (entries_in key.V file) _ f h (entries_true file key.V f of named)
-    (λ vs got h1.
+    (λ vs got past_got.
     let list = entries_listed key.V file vs got in
-    in_step (some key.V vs) _ f h1 (some_true file key.V vs f (λ e. absurd cc) (count_at file key.V vs list))
-    (λ u any h2. in_step (exactly key.V (n + 1) vs) _ f h2
+    in_step (some key.V vs) _ f past_got (some_true file key.V vs f (λ e. absurd cc) (count_at file key.V vs list))
+    (λ u any past_any. in_step (exactly key.V (n + 1) vs) _ f past_any
     (exactly_true file form.Lattice key.V (n + 1) vs f named (count_at file key.V vs list) (n, order, refl))
-    (λ u exact h3. numerals_true file key.V vs f of list h3)))
+    (λ u exact past_exact. numerals_true file key.V vs f of list past_exact)))
 
 ladder_true : (file : Members) (f : FilterFault) → HoldsForm file form.Lattice → ladder_in file ≡ Err f →
     IsTrueOf file f
@@ -320,9 +320,9 @@ ladder_true file f named h =
     let v : IsListKey file key.V kind.Numeral =
     record { own = refl; is = refl; entry = λ n v x. x; past = λ got limit x. x } in
     in_step (reflections_in file) _ f h (reflections_true file f named k)
-    (λ ks first h1. in_step (taps_in (length ks) file) _ f h1
+    (λ ks first past_first. in_step (taps_in (length ks) file) _ f past_first
     (taps_true (length ks) file f named (reflections_count file ks first) v)
-    (λ vs second h2. absurd cc))
+    (λ vs second past_second. absurd cc))
 
 -- ---- each form
 

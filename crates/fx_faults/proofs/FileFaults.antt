@@ -79,7 +79,7 @@ both_true : (file : Members) (fm : Form) (m p : ℕ) (f : FilterFault) → Holds
 both_true file fm m p f named other ins outs h =
     in_step (alone key.Inputs m) (λ u. alone key.Outputs p) f h
     (alone_true file fm key.Inputs m f named ins (other, refl))
-    (λ u one h1. alone_true file fm key.Outputs p f named outs (other, refl) h1)
+    (λ u one past_one. alone_true file fm key.Outputs p f named outs (other, refl) past_one)
 
 single_true : (file : Members) (form : Form) (m p : ℕ) (f : FilterFault) → HoldsForm file form →
     HasCount file key.Inputs m → HasCount file key.Outputs p → single form m p ≡ Err f → IsTrueOf file f
@@ -101,7 +101,7 @@ accumulator_true file f h =
     let default = default_of key.Accumulator in
     in_step (integer_or key.Accumulator default file) _ f h
     (integer_true file key.Accumulator 0 file default f refl refl (λ none. absurd cc))
-    (λ z number h1. in_step (unless (Limit key.Accumulator z (range_of key.Accumulator).high) (is_listed z)) _ f h1
+    (λ z number past_number. in_step (unless (Limit key.Accumulator z (range_of key.Accumulator).high) (is_listed z)) _ f past_number
     (λ wrong.
     let (test, e) = test_err (Limit key.Accumulator z (range_of key.Accumulator).high) f (is_listed z) wrong in
     elim (there_or_default (value_at key.Accumulator file) default z
@@ -116,14 +116,14 @@ accumulator_true file f h =
             greatest = refl;
           })
     ])
-    (λ u fits h2. absurd cc))
+    (λ u fits past_fits. absurd cc))
 
 settings_true : (file : Members) (form : Form) (f : FilterFault) → settings_in form file ≡ Err f → IsTrueOf file f
 unfolding settings_in
 settings_true file form f h =
     in_step (structure_in form file) _ f h (structure_true file form f)
-    (λ s h0 h1. in_step (accumulator_in file) _ f h1 (accumulator_true file f)
-    (λ a h2 h3. in_step (natural_in key.Word file) _ f h3 (natural_true file key.Word 0 file f (record {
+    (λ s structured past_s. in_step (accumulator_in file) _ f past_s (accumulator_true file f)
+    (λ a summed past_a. in_step (natural_in key.Word file) _ f past_a (natural_true file key.Word 0 file f (record {
       stands = refl;
       is = refl;
       required = λ none. absurd cc;
@@ -132,21 +132,21 @@ settings_true file form f h =
       ranged = refl;
       past = λ got limit x. inl x;
     }))
-    (λ w h4 h5. in_step (naturals_in key.Guards file) _ f h5 (numbers_true file key.Guards f (record {
+    (λ w stored past_w. in_step (naturals_in key.Guards file) _ f past_w (numbers_true file key.Guards f (record {
       list = record { own = refl; is = refl; entry = λ n v x. x; past = λ got limit x. x };
       other = λ e. absurd cc;
       limited = lit≤ tt;
       defaulted = refl;
       ranged = refl;
     }))
-    (λ g h6 h7. in_step (naturals_in key.Fractions file) _ f h7 (numbers_true file key.Fractions f (record {
+    (λ g guarded past_g. in_step (naturals_in key.Fractions file) _ f past_g (numbers_true file key.Fractions f (record {
       list = record { own = refl; is = refl; entry = λ n v x. x; past = λ got limit x. x };
       other = λ e. absurd cc;
       limited = lit≤ tt;
       defaulted = refl;
       ranged = refl;
     }))
-    (λ t h8 h9. in_step (naturals_in key.Lengths file) _ f h9 (numbers_true file key.Lengths f (record {
+    (λ t rounded past_t. in_step (naturals_in key.Lengths file) _ f past_t (numbers_true file key.Lengths f (record {
       list = record { own = refl; is = refl; entry = λ n v x. x; past = λ got limit x. x };
       other = λ e. absurd cc;
       limited = lit≤ tt;
@@ -169,7 +169,7 @@ near_fault low bits (o ∷ os) (item v vs) f each h told =
     in_step (output_fits low bits o) (λ u. outputs_fit low bits os) f h
     (λ wrong. let (t, there, is) = some_and (as_table v) (λ t. DescribesEntry low t o) each.0 in
     told 0 t o (ap (λ (x : Data). Some x) (is_table v t there)) is wrong)
-    (λ u first h1. near_fault low bits os vs f each.1 h1 (λ n t p there. told (suc n) t p there))
+    (λ u first past_first. near_fault low bits os vs f each.1 past_first (λ n t p there. told (suc n) t p there))
 
 no_difference : (low : ℤ) → low -ℤ low ≡ pos 0
 no_difference low = omega (arith, ints)
@@ -231,12 +231,12 @@ near_true file low bits n t o f ins accumulator stands is h =
     (λ wrong. let (test, e) = test_err (Limit key.OutputsLow d least) f (not (lt_z d least)) wrong in
     far_true file low o.low n t least f ins stands is.low.number
     (inl (lt_z_yes {a = d} {b = least} (not_sure (lt_z d least) test), refl)) e)
-    (λ u above h1. in_step (unless (Limit key.OutputsLow d greatest) (not (lt_z greatest d))) _ f h1
+    (λ u above past_above. in_step (unless (Limit key.OutputsLow d greatest) (not (lt_z greatest d))) _ f past_above
     (λ wrong. let (test, e) = test_err (Limit key.OutputsLow d greatest) f (not (lt_z greatest d)) wrong in
     far_true file low o.low n t greatest f ins stands is.low.number
     (inr (lt_z_yes {a = greatest} {b = d} (not_sure (lt_z greatest d) test), refl)) e)
-    (λ u below h2.
-    let (test, e) = test_err (Limit key.OutputsWidth (pos o.width) (pos bits)) f (nat_le o.width bits) h2 in
+    (λ u below past_below.
+    let (test, e) = test_err (Limit key.OutputsWidth (pos o.width) (pos bits)) f (nat_le o.width bits) past_below in
     let more : bits < o.width = grind (arith, nat_tests) in
     wide_true file o.width bits n t f accumulator stands is.width.number more e))
 
@@ -258,10 +258,10 @@ pub fault_true : (file : Members) (f : FilterFault) → filter_in file ≡ Err f
 unfolding filter_in
 fault_true file f h =
     in_step (head_in file) _ f h (head_true file f)
-    (λ form head h1.
+    (λ form head past_head.
     let named : HoldsForm file form = (head_read file form head).0 in
-    in_step (ports_in file) _ f h1 (ports_true file form f named)
-    (λ ports both h2.
+    in_step (ports_in file) _ f past_head (ports_true file form f named)
+    (λ ports both past_both.
     let held = ports_read file ports both in
     let m = length ports.inputs.formats in
     let p = length ports.outputs in
@@ -269,12 +269,12 @@ fault_true file f h =
     list_count (IsTableOf DescribesInput) ports.inputs.formats file key.Inputs held.inputs.held in
     let outs : HasCount file key.Outputs p =
     list_count (IsTableOf (DescribesEntry ports.inputs.low)) ports.outputs file key.Outputs held.outputs.held in
-    in_step (coefficients_in form m p file) _ f h2 (coefficients_true form m p file f named ins outs)
-    (λ c lists h3. in_step (settings_in form file) _ f h3 (settings_true file form f)
-    (λ settings chosen h4. in_step (single form m p) _ f h4 (single_true file form m p f named ins outs)
-    (λ u one h5. in_step (outputs_fit ports.inputs.low settings.accumulator ports.outputs) _ f h5
+    in_step (coefficients_in form m p file) _ f past_both (coefficients_true form m p file f named ins outs)
+    (λ c lists past_lists. in_step (settings_in form file) _ f past_lists (settings_true file form f)
+    (λ settings chosen past_chosen. in_step (single form m p) _ f past_chosen (single_true file form m p f named ins outs)
+    (λ u one past_one. in_step (outputs_fit ports.inputs.low settings.accumulator ports.outputs) _ f past_one
     (outputs_near file ports settings.accumulator f held (settings_read form file settings chosen).accumulator)
-    (λ u near h6. absurd cc))))))
+    (λ u near past_near. absurd cc))))))
 
 -- what is told of the table is told of the file
 of_file : (bytes : List ℕ) (file : Members) (f : FilterFault) → IsTextOf bytes file → IsTrueOf file f →
@@ -306,7 +306,7 @@ unfolding filter_of_bytes
 faults_are_true bytes f h =
     in_step (table_at bytes) filter_in f h
     (λ wrong. let (e, none) = no_text bytes f wrong in subst (IsTrueOfFile bytes) e none)
-    (λ file table h1. of_file bytes file f (one_text bytes file table) (fault_true file f h1))
+    (λ file table past_table. of_file bytes file f (one_text bytes file table) (fault_true file f past_table))
 
 no_table_told : (bytes : List ℕ) → IsNoTable bytes → table_at bytes ≡ Err NotToml
 no_table_told bytes none = told_by (table_at bytes) refl

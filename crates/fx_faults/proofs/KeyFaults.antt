@@ -194,24 +194,24 @@ pub entries_true : (file : Members) (k : Key) (f : FilterFault) → IsListKey fi
 unfolding entries_in
 entries_true file k f of required h =
     in_step (needed k file) _ f h (own_missing file k kind.Numeral f of required)
-    (λ v there h1. in_step (list_at k v) _ f h1
+    (λ v there past_there. in_step (list_at k v) _ f past_there
     (list_true file k kind.Numeral v f of (fault_ok (Missing k) (value_at k file) v there))
-    (λ vs list h2. in_step (all_numerals k vs) _ f h2
+    (λ vs list past_list. in_step (all_numerals k vs) _ f past_list
     (λ wrong. other_numeral k vs f wrong (λ n x at other e.
     entry_true file k kind.Numeral vs n x f of (list_here file k v vs there list) at other e))
-    (λ u all h3. absurd cc)))
+    (λ u all past_all. absurd cc)))
 
 pub rows_true : (file : Members) (k : Key) (f : FilterFault) → IsListKey file k (ListOf kind.Numeral) →
     IsRequired file k → rows_in k file ≡ Err f → IsTrueOf file f
 unfolding rows_in
 rows_true file k f of required h =
     in_step (needed k file) _ f h (own_missing file k (ListOf kind.Numeral) f of required)
-    (λ v there h1. in_step (list_at k v) _ f h1
+    (λ v there past_there. in_step (list_at k v) _ f past_there
     (list_true file k (ListOf kind.Numeral) v f of (fault_ok (Missing k) (value_at k file) v there))
-    (λ vs list h2. in_step (all_rows k vs) _ f h2
+    (λ vs list past_list. in_step (all_rows k vs) _ f past_list
     (λ wrong. other_row k vs f wrong (λ n x at other e.
     entry_true file k (ListOf kind.Numeral) vs n x f of (list_here file k v vs there list) at other e))
-    (λ u all h3. absurd cc)))
+    (λ u all past_all. absurd cc)))
 
 -- an entry is no numeral
 pub numerals_true : (file : Members) (k : Key) (vs : Items) (f : FilterFault) → IsListKey file k kind.Numeral →
@@ -253,7 +253,7 @@ matrix_true file k width vs f of list fixed h =
     ) in
     in_step (each_exactly k width vs) _ f h
     (λ wrong. rows_fault k width vs f wrong other shape)
-    (λ u exact h1. matrix_fault k width 0 vs f h1 other shape (λ n x there is.
+    (λ u exact past_exact. matrix_fault k width 0 vs f past_exact other shape (λ n x there is.
     let at : 0 + n ≡ n = omega arith in
     let value : entries_of (kind_of k) list.value ≡ flat_map (entries_of (ListOf kind.Numeral)) (listed vs) =
     ap (λ (kd : Kind). entries_of kd list.value) of.is

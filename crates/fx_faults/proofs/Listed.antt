@@ -105,10 +105,10 @@ other_row k no_items f h told = absurd cc
 other_row k (item v vs) f h told =
     in_step (list_at k v) _ f h
     (λ no. list_fault k v f no (λ none e. told 0 v refl (no_list kind.Numeral v none) e))
-    (λ es list h1. in_step (all_numerals k es) _ f h1
+    (λ es list past_list. in_step (all_numerals k es) _ f past_list
     (λ no. other_numeral k es f no (λ n x there other e.
     told 0 v refl (other_entry kind.Numeral v es n x (fault_ok (WrongKind k) (as_array v) es list) there other) e))
-    (λ u all h2. other_row k vs f h2 (λ n x there other e. told (suc n) x there other e)))
+    (λ u all past_all. other_row k vs f past_all (λ n x there other e. told (suc n) x there other e)))
 
 -- ---- entries that are no numerals
 
@@ -131,7 +131,7 @@ unfolding numeral_at
 numeral_fault k place v f h other bad =
     in_step (or_fault (WrongKind k) (numeral_text v)) _ f h
     (λ no. let (none, e) = fault_err (WrongKind k) f (numeral_text v) no in other (is_nothing (numeral_text v) none) e)
-    (λ text there h1. in_place_err k place (numeral text) f h1 (λ e read told.
+    (λ text there past_there. in_place_err k place (numeral text) f past_there (λ e read told.
     bad (record {
       text = text;
       bad = e;
@@ -151,11 +151,11 @@ numerals_fault k place (item v vs) f h other bad =
     (λ no. numeral_fault k place v f no (other 0 v refl)
     (λ is. let here : place ≡ place + 0 = omega arith in
     bad 0 v refl (subst (λ (p : ℕ). IsBad k p v f) here is)))
-    (λ c first h1. in_step (each_numeral k (place + 1) vs) _ f h1
+    (λ c first past_first. in_step (each_numeral k (place + 1) vs) _ f past_first
     (λ no. numerals_fault k (place + 1) vs f no (λ n x there. other (suc n) x there)
     (λ n x there is. let next : place + 1 + n ≡ place + suc n = omega arith in
     bad (suc n) x there (subst (λ (p : ℕ). IsBad k p x f) next is)))
-    (λ cs others h2. absurd cc))
+    (λ cs others past_others. absurd cc))
 
 -- ---- all entries, row after row
 
@@ -200,8 +200,8 @@ pub row_stands : (k : Key) (width : ℕ) (v : Data) (es : Items) → row_of k wi
     (v ≡ array es) × (item_count es ≡ width)
 unfolding row_of
 row_stands k width v es h =
-    let (ds, list, h1) = bind_ok (list_at k v) _ es h in
-    let (u, exact, same) = bind_ok (exactly k width ds) _ es h1 in
+    let (ds, list, past_list) = bind_ok (list_at k v) _ es h in
+    let (u, exact, same) = bind_ok (exactly k width ds) _ es past_list in
     let is : ds ≡ es = same_ok ds es same in (
       is_array v es (fault_ok (WrongKind k) (as_array v) ds list ∙ ap (λ (x : Items). Some x) is),
       ap (λ (x : Items). item_count x) (sym is) ∙ exact_count k width ds u exact,
@@ -213,7 +213,7 @@ unfolding row_of
 row_fault k width v f h other shape =
     in_step (list_at k v) _ f h
     (λ no. list_fault k v f no (λ none e. other (no_list kind.Numeral v none) e))
-    (λ es list h1. in_step (exactly k width es) _ f h1
+    (λ es list past_list. in_step (exactly k width es) _ f past_list
     (λ no. let (test, e) = test_err (Shape k (item_count es) width) f (item_count es == width) no in
     shape (record {
       row = es;
@@ -221,7 +221,7 @@ row_fault k width v f h other shape =
       other = λ same. absurd (grind (arith, nat_tests));
       told = e;
     }))
-    (λ u exact h2. absurd cc))
+    (λ u exact past_exact. absurd cc))
 
 pub rows_fault : {W : Type 0} (k : Key) (width : ℕ) (vs : Items) (f : FilterFault) →
     each_exactly k width vs ≡ Err f →
@@ -232,7 +232,7 @@ rows_fault k width no_items f h other shape = absurd cc
 rows_fault k width (item v vs) f h other shape =
     in_step (row_of k width v) _ f h
     (λ no. row_fault k width v f no (other 0 v refl) (shape 0 v refl))
-    (λ es row h1. rows_fault k width vs f h1 (λ n x there. other (suc n) x there)
+    (λ es row past_row. rows_fault k width vs f past_row (λ n x there. other (suc n) x there)
     (λ n x there. shape (suc n) x there))
 
 -- the entries of a row, and of those behind it
@@ -255,16 +255,16 @@ matrix_fault k width place (item v vs) f h other shape bad =
     let rest = flat_map (entries_of (ListOf kind.Numeral)) (listed vs) in
     in_step (row_of k width v) _ f h
     (λ no. row_fault k width v f no (other 0 v refl) (shape 0 v refl))
-    (λ es row h1.
+    (λ es row past_row.
     let is : v ≡ array es = (row_stands k width v es row).0 in
-    in_step (each_numeral k place es) _ f h1
+    in_step (each_numeral k place es) _ f past_row
     (λ no. numerals_fault k place es f no
     (λ n x there no_numeral e.
     other 0 v refl (other_entry kind.Numeral v es n x (ap as_array is) there no_numeral) e)
     (λ n x there is_bad. bad n x
     (in_front n first rest x (subst (λ (y : Data). slice_get (entries_of (ListOf kind.Numeral) y) n ≡ Some x)
     (sym is) (numeral_stands n es x there))) is_bad))
-    (λ xs all h2. in_step (each_row k width (place + width) vs) _ f h2
+    (λ xs all past_all. in_step (each_row k width (place + width) vs) _ f past_all
     (λ no. matrix_fault k width (place + width) vs f no (λ n x there. other (suc n) x there)
     (λ n x there. shape (suc n) x there)
     (λ n x there is_bad.
@@ -272,4 +272,4 @@ matrix_fault k width place (item v vs) f h other shape bad =
     bad (width + n) x
     (behind n (width + n) first rest x (ap (λ (c : ℕ). c + n) (sym (row_count k width v es row))) there)
     (subst (λ (p : ℕ). IsBad k p x f) next is_bad)))
-    (λ ys others h3. absurd cc)))
+    (λ ys others past_others. absurd cc)))

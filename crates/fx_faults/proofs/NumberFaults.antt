@@ -114,7 +114,7 @@ pub whole_true : (file : Members) (k : Key) (place : ℕ) (owner : Members) (def
     IsTrueOf file f
 whole_true file k place owner default range f of h =
     in_step (integer_or k default owner) _ f h (integer_true file k place owner default f of.stands of.is of.required)
-    (λ z number h1. ranged_fault k range z f h1 (λ limit past e.
+    (λ z number past_number. ranged_fault k range z f past_number (λ limit past e.
     subst (IsTrueOf file) e
     (out_of_range file k place owner default range z limit of (integer_read k default owner z number) past)))
 
@@ -122,7 +122,7 @@ pub natural_true : (file : Members) (k : Key) (place : ℕ) (owner : Members) (f
     IsNumberKey file k place owner (default_of k) (range_of k) → natural_in k owner ≡ Err f → IsTrueOf file f
 natural_true file k place owner f of h =
     in_step (whole_in k owner) _ f h (whole_true file k place owner (default_of k) (range_of k) f of)
-    (λ z number h1. absurd cc)
+    (λ z number past_number. absurd cc)
 
 -- ---- in lists
 
@@ -132,10 +132,10 @@ natural_fault : {W : Type 0} (k : Key) (v : Data) (f : FilterFault) → natural_
 natural_fault k v f h other past =
     in_step (integer_at k v) _ f h
     (λ wrong. let (none, e) = fault_err (WrongKind k) f (as_integer v) wrong in other none e)
-    (λ z number h1. in_step (ranged k (range_of k) z) _ f h1
+    (λ z number past_number. in_step (ranged k (range_of k) z) _ f past_number
     (λ wrong. ranged_fault k (range_of k) z f wrong (λ limit out e.
     past z limit (fault_ok (WrongKind k) (as_integer v) z number) out e))
-    (λ x within h2. absurd cc))
+    (λ x within past_within. absurd cc))
 
 naturals_fault : {W : Type 0} (k : Key) (vs : Items) (f : FilterFault) → each_natural k vs ≡ Err f →
     ((n : ℕ) (x : Data) → get_item n vs ≡ Some x → ¬ HasKind kind.Whole x → WrongKind k ≡ f → W) →
@@ -147,10 +147,10 @@ naturals_fault k (item v vs) f h other past =
     in_step (natural_at k v) _ f h
     (λ wrong. natural_fault k v f wrong (λ none e. other 0 v refl (is_nothing (as_integer v) none) e)
     (λ z limit is out e. past 0 z limit (ap (λ (x : Data). Some x) (is_integer v z is)) out e))
-    (λ n first h1. in_step (each_natural k vs) _ f h1
+    (λ n first past_first. in_step (each_natural k vs) _ f past_first
     (λ wrong. naturals_fault k vs f wrong (λ n x there. other (suc n) x there)
     (λ n z limit there. past (suc n) z limit there))
-    (λ ns others h2. absurd cc))
+    (λ ns others past_others. absurd cc))
 
 -- what is said of a key at which a list of whole numbers stands, or its default
 pub record IsNumbersKey (file : Members) (k : Key) : Type 0 where
@@ -165,15 +165,15 @@ list_of_numbers : (file : Members) (k : Key) (v : Data) (f : FilterFault) → Is
 unfolding naturals
 list_of_numbers file k v f of there h =
     in_step (list_at k v) _ f h (list_true file k kind.Whole v f of.list there)
-    (λ vs got h1.
+    (λ vs got past_got.
     let list : IsListed k file vs =
     record { value = v; there = there; list = fault_ok (WrongKind k) (as_array v) vs got } in
-    in_step (all_whole k vs) _ f h1
+    in_step (all_whole k vs) _ f past_got
     (λ wrong. other_whole k vs f wrong (λ n x at other e.
     entry_true file k kind.Whole vs n x f of.list list at other e))
-    (λ u all h2. in_step (some k vs) _ f h2 (some_true file k vs f of.other (count_at file k vs list))
-    (λ u any h3. in_step (at_most k vs) _ f h3 (most_true file k kind.Whole vs f of.list list of.limited)
-    (λ u few h4. naturals_fault k vs f h4
+    (λ u all past_all. in_step (some k vs) _ f past_all (some_true file k vs f of.other (count_at file k vs list))
+    (λ u any past_any. in_step (at_most k vs) _ f past_any (most_true file k kind.Whole vs f of.list list of.limited)
+    (λ u few past_few. naturals_fault k vs f past_few
     (λ n x at other e. entry_true file k kind.Whole vs n x f of.list list at other e)
     (λ n z limit at past e.
     let value : entries_of (kind_of k) v ≡ flat_map (entries_of kind.Whole) (listed vs) =

@@ -52,16 +52,16 @@ unfolding tables_in
 tables_true file k f of required other limited h =
     in_step (needed k file) _ f h
     (missing_true file k 0 file f (subst (λ (p : Option Key). IsTableAt p 0 file file) (sym of.own) refl) required)
-    (λ v there h1. in_step (list_at k v) _ f h1
+    (λ v there past_there. in_step (list_at k v) _ f past_there
     (list_true file k kind.Table v f of (fault_ok (Missing k) (value_at k file) v there))
-    (λ vs got h2.
+    (λ vs got past_got.
     let list : IsListed k file vs = list_here file k v vs there got in
-    in_step (all_tables k vs) _ f h2
+    in_step (all_tables k vs) _ f past_got
     (λ wrong. other_table k vs f wrong (λ n x at no_table e.
     entry_true file k kind.Table vs n x f of list at no_table e))
-    (λ u all h3. in_step (some k vs) _ f h3 (some_true file k vs f other (count_at file k vs list))
-    (λ u any h4. in_step (at_most k vs) _ f h4 (most_true file k kind.Table vs f of list limited)
-    (λ u few h5. absurd cc)))))
+    (λ u all past_all. in_step (some k vs) _ f past_all (some_true file k vs f other (count_at file k vs list))
+    (λ u any past_any. in_step (at_most k vs) _ f past_any (most_true file k kind.Table vs f of list limited)
+    (λ u few past_few. absurd cc)))))
 
 -- the table at a place of a list
 table_stands : (file : Members) (k : Key) (vs : Items) (n : ℕ) (t : Members) → IsListed k file vs →
@@ -94,7 +94,7 @@ unfolding input_in
 input_true file form n t f named stands h =
     in_step (only_keys (key.InputsWidth ∷ key.InputsBound ∷ []) t) _ f h
     (keys_true file form (Some key.Inputs) _ n t f named stands refl)
-    (λ u keys h1. in_step (natural_in key.InputsWidth t) _ f h1
+    (λ u keys past_keys. in_step (natural_in key.InputsWidth t) _ f past_keys
     (natural_true file key.InputsWidth n t f (record {
       stands = stands;
       is = refl;
@@ -103,9 +103,9 @@ input_true file form n t f named stands h =
       ranged = refl;
       past = λ got limit x. inl x;
     }))
-    (λ width wide h2.
+    (λ width wide past_wide.
     let top = top_word width in
-    in_step (whole_or key.InputsBound (bounds_of width) (Some top) t) _ f h2
+    in_step (whole_or key.InputsBound (bounds_of width) (Some top) t) _ f past_wide
     (whole_true file key.InputsBound n t (Some top) (bounds_of width) f (record {
       stands = stands;
       is = refl;
@@ -114,7 +114,7 @@ input_true file form n t f named stands h =
       ranged = (width, natural_read key.InputsWidth t width (record { le = tt }) wide, refl);
       past = λ got limit x. inl x;
     }))
-    (λ bound high h3. absurd cc)))
+    (λ bound high past_high. absurd cc)))
 
 -- an entry is no table, or what is told of the table
 input_fault : {W : Type 0} (vs : Items) (f : FilterFault) → each_input vs ≡ Err f →
@@ -126,11 +126,11 @@ input_fault (item v vs) f h other told =
     in_step (or_fault (WrongKind key.Inputs) (as_table v)) _ f h
     (λ wrong. let (none, e) = fault_err (WrongKind key.Inputs) f (as_table v) wrong in
     other 0 v refl (is_nothing (as_table v) none) e)
-    (λ t is h1. in_step (input_in t) _ f h1
+    (λ t is past_is. in_step (input_in t) _ f past_is
     (told 0 t (ap (λ (x : Data). Some x) (is_table v t (fault_ok (WrongKind key.Inputs) (as_table v) t is))))
-    (λ i first h2. in_step (each_input vs) _ f h2
+    (λ i first past_first. in_step (each_input vs) _ f past_first
     (λ wrong. input_fault vs f wrong (λ n x there. other (suc n) x there) (λ n s there. told (suc n) s there))
-    (λ is others h3. absurd cc)))
+    (λ is others past_others. absurd cc)))
 
 low_key : (file : Members) → IsNumberKey file key.InputLow 0 file (default_of key.InputLow) (range_of key.InputLow)
 low_key file = record {
@@ -149,15 +149,15 @@ unfolding inputs_in
 inputs_true file form f named h =
     in_step (whole_in key.InputLow file) _ f h
     (whole_true file key.InputLow 0 file (default_of key.InputLow) (range_of key.InputLow) f (low_key file))
-    (λ low got h1. in_step (tables_in key.Inputs file) _ f h1
+    (λ low got past_got. in_step (tables_in key.Inputs file) _ f past_got
     (tables_true file key.Inputs f (inputs_key file) tt (λ e. absurd cc) (lit≤ tt))
-    (λ vs tables h2.
+    (λ vs tables past_tables.
     let list = (tables_listed key.Inputs file vs tables).0 in
-    in_step (each_input vs) _ f h2
+    in_step (each_input vs) _ f past_tables
     (λ wrong. input_fault vs f wrong
     (λ n x there no_table e. entry_true file key.Inputs kind.Table vs n x f (inputs_key file) list there no_table e)
     (λ n t there told. input_true file form n t f named (table_stands file key.Inputs vs n t list there) told))
-    (λ formats each h3. absurd cc)))
+    (λ formats each past_each. absurd cc)))
 
 -- ---- outputs
 
@@ -173,15 +173,15 @@ unfolding error_in
 error_true file n t f stands h =
     in_step (needed key.OutputsError t) _ f h
     (missing_true file key.OutputsError n t f stands tt)
-    (λ v got h1.
+    (λ v got past_got.
     let there : value_at key.OutputsError t ≡ Some v =
     fault_ok (Missing key.OutputsError) (value_at key.OutputsError t) v got in
     let held : HasValue file key.OutputsError n v = record { owner = t; stands = stands; held = there } in
-    in_step (numeral_at key.OutputsError n v) _ f h1
+    in_step (numeral_at key.OutputsError n v) _ f past_got
     (λ wrong. numeral_fault key.OutputsError n v f wrong
     (λ other e. kind_true file key.OutputsError kind.Numeral n v f held refl other e)
     (bad_true file key.OutputsError n v f tt held))
-    (λ c means h2. in_step (unless (Limit key.OutputsError (pos n) (pos 0)) (not (lt_z c.num (pos 0)))) _ f h2
+    (λ c means past_means. in_step (unless (Limit key.OutputsError (pos n) (pos 0)) (not (lt_z c.num (pos 0)))) _ f past_means
     (λ wrong. let (test, e) = test_err (Limit key.OutputsError (pos n) (pos 0)) f (not (lt_z c.num (pos 0))) wrong in
     subst (IsTrueOf file) e
     (record {
@@ -194,7 +194,7 @@ error_true file n t f stands h =
       numbered = refl;
       least = refl;
     }))
-    (λ u above h3. absurd cc)))
+    (λ u above past_above. absurd cc)))
 
 output_true : (file : Members) (form : Form) (low : ℤ) (n : ℕ) (t : Members) (f : FilterFault) →
     HoldsForm file form → IsWithin LOWS low → IsTableAt (Some key.Outputs) n file t → output_in low n t ≡ Err f →
@@ -203,7 +203,7 @@ unfolding output_in
 output_true file form low n t f named within stands h =
     in_step (only_keys (key.OutputsWidth ∷ key.OutputsLow ∷ key.OutputsError ∷ []) t) _ f h
     (keys_true file form (Some key.Outputs) _ n t f named stands refl)
-    (λ u keys h1. in_step (natural_in key.OutputsWidth t) _ f h1
+    (λ u keys past_keys. in_step (natural_in key.OutputsWidth t) _ f past_keys
     (natural_true file key.OutputsWidth n t f (record {
       stands = stands;
       is = refl;
@@ -212,7 +212,7 @@ output_true file form low n t f named within stands h =
       ranged = refl;
       past = λ got limit x. inl x;
     }))
-    (λ width wide h2. in_step (whole_or key.OutputsLow LOWS (Some low) t) _ f h2
+    (λ width wide past_wide. in_step (whole_or key.OutputsLow LOWS (Some low) t) _ f past_wide
     (whole_true file key.OutputsLow n t (Some low) LOWS f (record {
       stands = stands;
       is = refl;
@@ -221,7 +221,7 @@ output_true file form low n t f named within stands h =
       ranged = refl;
       past = λ got limit x. inl x;
     }))
-    (λ z held h3. in_step (error_in n t) _ f h3 (error_true file n t f stands) (λ error off h4. absurd cc))))
+    (λ z held past_held. in_step (error_in n t) _ f past_held (error_true file n t f stands) (λ error off past_off. absurd cc))))
 
 output_fault : {W : Type 0} (low : ℤ) (place : ℕ) (vs : Items) (f : FilterFault) → each_output low place vs ≡ Err f →
     ((n : ℕ) (x : Data) → get_item n vs ≡ Some x → ¬ HasKind kind.Table x → WrongKind key.Outputs ≡ f → W) →
@@ -232,15 +232,15 @@ output_fault low place (item v vs) f h other told =
     in_step (or_fault (WrongKind key.Outputs) (as_table v)) _ f h
     (λ wrong. let (none, e) = fault_err (WrongKind key.Outputs) f (as_table v) wrong in
     other 0 v refl (is_nothing (as_table v) none) e)
-    (λ t is h1. in_step (output_in low place t) _ f h1
+    (λ t is past_is. in_step (output_in low place t) _ f past_is
     (λ wrong. let here : place ≡ place + 0 = omega arith in
     told 0 t (ap (λ (x : Data). Some x) (is_table v t (fault_ok (WrongKind key.Outputs) (as_table v) t is)))
     (subst (λ (p : ℕ). output_in low p t ≡ Err f) here wrong))
-    (λ o first h2. in_step (each_output low (place + 1) vs) _ f h2
+    (λ o first past_first. in_step (each_output low (place + 1) vs) _ f past_first
     (λ wrong. output_fault low (place + 1) vs f wrong (λ n x there. other (suc n) x there)
     (λ n s there fails. let next : place + 1 + n ≡ place + suc n = omega arith in
     told (suc n) s there (subst (λ (p : ℕ). output_in low p s ≡ Err f) next fails)))
-    (λ os others h3. absurd cc)))
+    (λ os others past_others. absurd cc)))
 
 outputs_true : (file : Members) (form : Form) (low : ℤ) (f : FilterFault) → HoldsForm file form → IsWithin LOWS low →
     outputs_in low file ≡ Err f → IsTrueOf file f
@@ -248,9 +248,9 @@ unfolding outputs_in
 outputs_true file form low f named within h =
     in_step (tables_in key.Outputs file) _ f h
     (tables_true file key.Outputs f (outputs_key file) tt (λ e. absurd cc) (lit≤ tt))
-    (λ vs tables h1.
+    (λ vs tables past_tables.
     let list = (tables_listed key.Outputs file vs tables).0 in
-    output_fault low 0 vs f h1
+    output_fault low 0 vs f past_tables
     (λ n x there no_table e. entry_true file key.Outputs kind.Table vs n x f (outputs_key file) list there no_table e)
     (λ n t there told.
     let at : 0 + n ≡ n = omega arith in
@@ -262,9 +262,9 @@ outputs_true file form low f named within h =
 inputs_low : (file : Members) (inputs : Inputs) → inputs_in file ≡ Ok inputs → IsWithin LOWS inputs.low
 unfolding inputs_in
 inputs_low file inputs h =
-    let (low, got, h1) = bind_ok (whole_in key.InputLow file) _ inputs h in
-    let (vs, tables, h2) = bind_ok (tables_in key.Inputs file) _ inputs h1 in
-    let (formats, each, same) = bind_ok (each_input vs) _ inputs h2 in
+    let (low, got, past_got) = bind_ok (whole_in key.InputLow file) _ inputs h in
+    let (vs, tables, past_tables) = bind_ok (tables_in key.Inputs file) _ inputs past_got in
+    let (formats, each, same) = bind_ok (each_input vs) _ inputs past_tables in
     let held = whole_read key.InputLow (range_of key.InputLow) (default_of key.InputLow) file low got in
     subst (λ (i : Inputs). IsWithin LOWS i.low) (same_ok (record { low = low; formats = formats }) inputs same)
     held.within
@@ -274,6 +274,6 @@ pub ports_true : (file : Members) (form : Form) (f : FilterFault) → HoldsForm 
 unfolding ports_in
 ports_true file form f named h =
     in_step (inputs_in file) _ f h (inputs_true file form f named)
-    (λ inputs got h1. in_step (outputs_in inputs.low file) _ f h1
+    (λ inputs got past_got. in_step (outputs_in inputs.low file) _ f past_got
     (outputs_true file form inputs.low f named (inputs_low file inputs got))
-    (λ outputs given h2. absurd cc))
+    (λ outputs given past_given. absurd cc))

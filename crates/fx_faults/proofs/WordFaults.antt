@@ -153,11 +153,11 @@ text_true file k v f own is there h =
 form_true : (file : Members) (f : FilterFault) → form_in file ≡ Err f → IsTrueOf file f
 form_true file f h =
     in_step (needed key.Form file) _ f h (missing_true file key.Form 0 file f refl tt)
-    (λ v got h1.
+    (λ v got past_got.
     let there : value_at key.Form file ≡ Some v = fault_ok (Missing key.Form) (value_at key.Form file) v got in
-    in_step (or_fault (WrongKind key.Form) (as_str v)) _ f h1 (text_true file key.Form v f refl refl there)
-    (λ text is h2.
-    let (none, e) = fault_err (UnknownWord key.Form) f (form_word text) h2 in
+    in_step (or_fault (WrongKind key.Form) (as_str v)) _ f past_got (text_true file key.Form v f refl refl there)
+    (λ text is past_is.
+    let (none, e) = fault_err (UnknownWord key.Form) f (form_word text) past_is in
     subst (IsTrueOf file) e
     (record {
       words = refl;
@@ -171,8 +171,8 @@ structure_here : (file : Members) (form : Form) (o : Option Data) (f : FilterFau
 structure_here file form None f there h = absurd cc
 structure_here file form (Some v) f there h =
     in_step (or_fault (WrongKind key.Structure) (as_str v)) _ f h (text_true file key.Structure v f refl refl there)
-    (λ text is h1.
-    let (none, e) = fault_err (UnknownWord key.Structure) f (structure_word text) h1 in
+    (λ text is past_is.
+    let (none, e) = fault_err (UnknownWord key.Structure) f (structure_word text) past_is in
     subst (IsTrueOf file) e
     (record {
       words = refl;
@@ -211,10 +211,10 @@ word_named text f h = elim (cases_Bool (bytes_eq text (codes "tf"))) [
 
 form_named : (file : Members) (form : Form) → form_in file ≡ Ok form → HoldsForm file form
 form_named file form h =
-    let (v, there, h1) = bind_ok (needed key.Form file) _ form h in
-    let (text, is, h2) = bind_ok (or_fault (WrongKind key.Form) (as_str v)) _ form h1 in
+    let (v, there, past_there) = bind_ok (needed key.Form file) _ form h in
+    let (text, is, past_is) = bind_ok (or_fault (WrongKind key.Form) (as_str v)) _ form past_there in
     let named : text ≡ form_text form =
-    word_named text form (fault_ok (UnknownWord key.Form) (form_word text) form h2) in
+    word_named text form (fault_ok (UnknownWord key.Form) (form_word text) form past_is) in
     and_some (value_at key.Form file) (λ v. as_str v ≡ Some (form_text form)) v
     (fault_ok (Missing key.Form) (value_at key.Form file) v there)
     (fault_ok (WrongKind key.Form) (as_str v) text is ∙ ap (λ (x : List ℕ). Some x) named)
@@ -223,6 +223,6 @@ pub head_true : (file : Members) (f : FilterFault) → head_in file ≡ Err f �
 unfolding head_in
 head_true file f h =
     in_step (form_in file) _ f h (form_true file f)
-    (λ form got h1. in_step (only_keys (known_keys form) file) _ f h1
+    (λ form got past_got. in_step (only_keys (known_keys form) file) _ f past_got
     (keys_true file form None (known_keys form) 0 file f (form_named file form got) refl refl)
-    (λ u keys h2. absurd cc))
+    (λ u keys past_keys. absurd cc))

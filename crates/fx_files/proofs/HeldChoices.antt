@@ -142,8 +142,8 @@ structure_stands text structure.Ss h = rw h refl
 pub head_read : (t : Members) (form : Form) → head_in t ≡ Ok form → HoldsForm t form × HasOnly (known_keys form) t
 unfolding head_in
 head_read t form h =
-    let (f, got, h1) = bind_ok (form_in t) _ form h in
-    let (u, keys, same) = bind_ok (only_keys (known_keys f) t) _ form h1 in
+    let (f, got, past_got) = bind_ok (form_in t) _ form h in
+    let (u, keys, same) = bind_ok (only_keys (known_keys f) t) _ form past_got in
     let (v, there, g1) = bind_ok (needed key.Form t) _ f got in
     let (w, text, g2) = bind_ok (or_fault (WrongKind key.Form) (as_str v)) _ f g1 in
     let named_so : w ≡ form_text f = form_read w f (fault_ok (UnknownWord key.Form) (form_word w) f g2) in
@@ -172,8 +172,8 @@ structure_here : (form : Form) (o : Option Data) (s : Structure) →
     MatchOption o (s ≡ default_structure form) (λ v. as_str v ≡ Some (structure_text s))
 structure_here form None s h = sym (same_ok (default_structure form) s h)
 structure_here form (Some v) s h =
-    let (w, text, h1) = bind_ok (or_fault (WrongKind key.Structure) (as_str v)) _ s h in
-    let named_so = structure_read w s (fault_ok (UnknownWord key.Structure) (structure_word w) s h1) in
+    let (w, text, past_text) = bind_ok (or_fault (WrongKind key.Structure) (as_str v)) _ s h in
+    let named_so = structure_read w s (fault_ok (UnknownWord key.Structure) (structure_word w) s past_text) in
     fault_ok (WrongKind key.Structure) (as_str v) w text ∙ ap (λ (x : List ℕ). Some x) named_so
 
 here_structure : (form : Form) (o : Option Data) (s : Structure) →
@@ -193,10 +193,10 @@ listed_is (negsuc n) h = absurd cc
 accumulator_read : (t : Members) (n : ℕ) → accumulator_in t ≡ Ok n →
     HoldsInteger key.Accumulator (default_of key.Accumulator) t (pos n) × (is_accumulator n ≡ true)
 accumulator_read t n h =
-    let (z, number, h1) = bind_ok (integer_or key.Accumulator (default_of key.Accumulator) t) _ n h in
+    let (z, number, past_number) = bind_ok (integer_or key.Accumulator (default_of key.Accumulator) t) _ n h in
     let (u, is, same) = bind_ok
     (unless (Limit key.Accumulator z (range_of key.Accumulator).high) (is_listed z)) (λ u.
-    Ok (unsigned_abs z)) n h1 in
+    Ok (unsigned_abs z)) n past_number in
     let (m, positive, fits) = listed_is z (unless_ok _ _ u is) in
     let size : unsigned_abs z ≡ n = same_ok (unsigned_abs z) n same in
     let equal : m ≡ n = rw positive at size in (
@@ -214,12 +214,12 @@ accumulator_stands t n h is =
 pub settings_read : (form : Form) (t : Members) (s : Settings) → settings_in form t ≡ Ok s → DescribesSettings form t s
 unfolding settings_in
 settings_read form t s h =
-    let (structure, named_so, h1) = bind_ok (structure_in form t) _ s h in
-    let (accumulator, bits, h2) = bind_ok (accumulator_in t) _ s h1 in
-    let (word, wide, h3) = bind_ok (natural_in key.Word t) _ s h2 in
-    let (guards, guard, h4) = bind_ok (naturals_in key.Guards t) _ s h3 in
-    let (fractions, fraction, h5) = bind_ok (naturals_in key.Fractions t) _ s h4 in
-    let (lengths, moments, same) = bind_ok (naturals_in key.Lengths t) _ s h5 in
+    let (structure, named_so, past_named_so) = bind_ok (structure_in form t) _ s h in
+    let (accumulator, bits, past_bits) = bind_ok (accumulator_in t) _ s past_named_so in
+    let (word, wide, past_wide) = bind_ok (natural_in key.Word t) _ s past_bits in
+    let (guards, guard, past_guard) = bind_ok (naturals_in key.Guards t) _ s past_wide in
+    let (fractions, fraction, past_fraction) = bind_ok (naturals_in key.Fractions t) _ s past_guard in
+    let (lengths, moments, same) = bind_ok (naturals_in key.Lengths t) _ s past_fraction in
     let a = accumulator_read t accumulator bits in
     subst (DescribesSettings form t) (same_ok _ s same)
     (record {

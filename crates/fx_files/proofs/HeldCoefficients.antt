@@ -91,10 +91,10 @@ few_read k vs u h = let test = unless_ok _ _ u h in grind (arith, nat_tests)
 polynomial_read : (k : Key) (t : Members) (cs : List Fraction) → polynomial_in k t ≡ Ok cs → HoldsPolynomial k t cs
 unfolding polynomial_in
 polynomial_read k t cs h =
-    let (vs, got, h1) = bind_ok (entries_in k t) _ cs h in
-    let (u1, any, h2) = bind_ok (some k vs) _ cs h1 in
-    let (u2, few, h3) = bind_ok (at_most k vs) _ cs h2 in
-    let each = numerals_entries k 0 vs cs h3 in
+    let (vs, got, past_got) = bind_ok (entries_in k t) _ cs h in
+    let (u1, any, past_any) = bind_ok (some k vs) _ cs past_got in
+    let (u2, few, past_few) = bind_ok (at_most k vs) _ cs past_any in
+    let each = numerals_entries k 0 vs cs past_few in
     let count = count_of IsNumeralOf cs vs each in
     record {
       entries = listed IsNumeralOf cs k t vs (entries_listed k t vs got) each;
@@ -127,9 +127,9 @@ leads_stand place (c ∷ cs) h = rw h refl
 transfer_read : (m p : ℕ) (t : Members) (l : Coefficients) → transfer_in t ≡ Ok l → DescribesCoefficients m p t l
 unfolding transfer_in
 transfer_read m p t l h =
-    let (b, above, h1) = bind_ok (polynomial_in key.B t) _ l h in
-    let (a, below, h2) = bind_ok (polynomial_in key.A t) _ l h1 in
-    let (u, one, same) = bind_ok (monic key.A 0 a) _ l h2 in
+    let (b, above, past_above) = bind_ok (polynomial_in key.B t) _ l h in
+    let (a, below, past_below) = bind_ok (polynomial_in key.A t) _ l past_above in
+    let (u, one, same) = bind_ok (monic key.A 0 a) _ l past_below in
     let denominator = polynomial_read key.A t a below in
     subst (DescribesCoefficients m p t) (same_ok (coefficients.Tf b a) l same)
     (record {
@@ -207,11 +207,11 @@ lead_sections place (r ∷ rs) wide h =
 cascade_read : (m p : ℕ) (t : Members) (l : Coefficients) → cascade_in t ≡ Ok l → DescribesCoefficients m p t l
 unfolding cascade_in
 cascade_read m p t l h =
-    let (vs, got, h1) = bind_ok (rows_in key.Sections t) _ l h in
-    let (u1, any, h2) = bind_ok (some key.Sections vs) _ l h1 in
-    let (u2, few, h3) = bind_ok (at_most key.Sections vs) _ l h2 in
-    let (cs, read, h4) = bind_ok (matrix key.Sections SECTION_COEFFICIENTS vs) _ l h3 in
-    let (u3, one, same) = bind_ok (each_monic key.Sections 0 cs) _ l h4 in
+    let (vs, got, past_got) = bind_ok (rows_in key.Sections t) _ l h in
+    let (u1, any, past_any) = bind_ok (some key.Sections vs) _ l past_got in
+    let (u2, few, past_few) = bind_ok (at_most key.Sections vs) _ l past_any in
+    let (cs, read, past_read) = bind_ok (matrix key.Sections SECTION_COEFFICIENTS vs) _ l past_few in
+    let (u3, one, same) = bind_ok (each_monic key.Sections 0 cs) _ l past_read in
     let r = matrix_read key.Sections SECTION_COEFFICIENTS vs cs read in
     let count = count_of (IsListOf IsNumeralOf) r.rows vs r.stand in
     subst (DescribesCoefficients m p t) (same_ok (coefficients.Sos cs) l same)
@@ -265,11 +265,11 @@ block_read : (k : Key) (height width : ℕ) (t : Members) (cs : List Fraction) �
     matrix_in k height width t ≡ Ok cs → HoldsMatrix k height width t cs
 unfolding matrix_in
 block_read k height width t cs h =
-    let (vs, got, h1) = bind_ok (rows_in k t) _ cs h in
-    let (u1, any, h2) = bind_ok (some k vs) _ cs h1 in
-    let (u2, exact, h3) = bind_ok (exactly k height vs) _ cs h2 in
+    let (vs, got, past_got) = bind_ok (rows_in k t) _ cs h in
+    let (u1, any, past_any) = bind_ok (some k vs) _ cs past_got in
+    let (u2, exact, past_exact) = bind_ok (exactly k height vs) _ cs past_any in
     subst (λ (n : ℕ). HoldsMatrix k n width t cs) (exact_count k height vs u2 exact)
-    (matrix_held k width t vs cs got h3)
+    (matrix_held k width t vs cs got past_exact)
 
 block_stands : (k : Key) (height width : ℕ) (t : Members) (cs : List Fraction) → 1 ≤ height →
     HoldsMatrix k height width t cs → matrix_in k height width t ≡ Ok cs
@@ -284,15 +284,15 @@ block_stands k height width t cs some h =
 space_read : (m p : ℕ) (t : Members) (l : Coefficients) → space_in m p t ≡ Ok l → DescribesCoefficients m p t l
 unfolding space_in state_rows
 space_read m p t l h =
-    let (vs, first, h1) = bind_ok (state_rows t) _ l h in
+    let (vs, first, past_first) = bind_ok (state_rows t) _ l h in
     let (ws, got, g1) = bind_ok (rows_in key.MatA t) _ vs first in
     let (u1, any, g2) = bind_ok (some key.MatA ws) _ vs g1 in
     let (u2, few, g3) = bind_ok (at_most key.MatA ws) _ vs g2 in
     let is : ws ≡ vs = same_ok ws vs g3 in
-    let (a, read, h2) = bind_ok (matrix key.MatA (item_count vs) vs) _ l h1 in
-    let (b, second, h3) = bind_ok (matrix_in key.MatB (item_count vs) m t) _ l h2 in
-    let (c, third, h4) = bind_ok (matrix_in key.MatC p (item_count vs) t) _ l h3 in
-    let (d, fourth, same) = bind_ok (matrix_in key.MatD p m t) _ l h4 in
+    let (a, read, past_read) = bind_ok (matrix key.MatA (item_count vs) vs) _ l past_first in
+    let (b, second, past_second) = bind_ok (matrix_in key.MatB (item_count vs) m t) _ l past_read in
+    let (c, third, past_third) = bind_ok (matrix_in key.MatC p (item_count vs) t) _ l past_second in
+    let (d, fourth, same) = bind_ok (matrix_in key.MatD p m t) _ l past_third in
     let rows : rows_in key.MatA t ≡ Ok vs = got ∙ ap (λ (x : Items). Ok x) is in
     subst (DescribesCoefficients m p t) (same_ok (coefficients.Ss (item_count vs) a b c d) l same)
     (record {
@@ -330,8 +330,8 @@ space_stands m p t n A B C D some h =
 ladder_read : (m p : ℕ) (t : Members) (l : Coefficients) → ladder_in t ≡ Ok l → DescribesCoefficients m p t l
 unfolding ladder_in reflections_in taps_in
 ladder_read m p t l h =
-    let (k, first, h1) = bind_ok (reflections_in t) _ l h in
-    let (v, second, same) = bind_ok (taps_in (length k) t) _ l h1 in
+    let (k, first, past_first) = bind_ok (reflections_in t) _ l h in
+    let (v, second, same) = bind_ok (taps_in (length k) t) _ l past_first in
     let (vs, got, g1) = bind_ok (entries_in key.K t) _ k first in
     let (u1, few, g2) = bind_ok (at_most key.K vs) _ k g1 in
     let (ws, taps, f1) = bind_ok (entries_in key.V t) _ v second in
@@ -372,28 +372,28 @@ pub read_as : (form : Form) (m p : ℕ) (t : Members) (c : Coefficients) → coe
     form ≡ form_of c
 unfolding transfer_in cascade_in space_in ladder_in
 read_as form.Tf m p t c h =
-    let (b, above, h1) = bind_ok (polynomial_in key.B t) _ c h in
-    let (a, below, h2) = bind_ok (polynomial_in key.A t) _ c h1 in
-    let (u, one, same) = bind_ok (monic key.A 0 a) (λ u. Ok (coefficients.Tf b a)) c h2 in
+    let (b, above, past_above) = bind_ok (polynomial_in key.B t) _ c h in
+    let (a, below, past_below) = bind_ok (polynomial_in key.A t) _ c past_above in
+    let (u, one, same) = bind_ok (monic key.A 0 a) (λ u. Ok (coefficients.Tf b a)) c past_below in
     ap form_of (same_ok (coefficients.Tf b a) c same)
 read_as form.Sos m p t c h =
-    let (vs, got, h1) = bind_ok (rows_in key.Sections t) _ c h in
-    let (u1, any, h2) = bind_ok (some key.Sections vs) _ c h1 in
-    let (u2, few, h3) = bind_ok (at_most key.Sections vs) _ c h2 in
-    let (cs, read, h4) = bind_ok (matrix key.Sections SECTION_COEFFICIENTS vs) _ c h3 in
-    let (u3, one, same) = bind_ok (each_monic key.Sections 0 cs) (λ u. Ok (coefficients.Sos cs)) c h4 in
+    let (vs, got, past_got) = bind_ok (rows_in key.Sections t) _ c h in
+    let (u1, any, past_any) = bind_ok (some key.Sections vs) _ c past_got in
+    let (u2, few, past_few) = bind_ok (at_most key.Sections vs) _ c past_any in
+    let (cs, read, past_read) = bind_ok (matrix key.Sections SECTION_COEFFICIENTS vs) _ c past_few in
+    let (u3, one, same) = bind_ok (each_monic key.Sections 0 cs) (λ u. Ok (coefficients.Sos cs)) c past_read in
     ap form_of (same_ok (coefficients.Sos cs) c same)
 read_as form.Ss m p t c h =
-    let (vs, first, h1) = bind_ok (state_rows t) _ c h in
-    let (x, read, h2) = bind_ok (matrix key.MatA (item_count vs) vs) _ c h1 in
-    let (y, second, h3) = bind_ok (matrix_in key.MatB (item_count vs) m t) _ c h2 in
-    let (z, third, h4) = bind_ok (matrix_in key.MatC p (item_count vs) t) _ c h3 in
+    let (vs, first, past_first) = bind_ok (state_rows t) _ c h in
+    let (x, read, past_read) = bind_ok (matrix key.MatA (item_count vs) vs) _ c past_first in
+    let (y, second, past_second) = bind_ok (matrix_in key.MatB (item_count vs) m t) _ c past_read in
+    let (z, third, past_third) = bind_ok (matrix_in key.MatC p (item_count vs) t) _ c past_second in
     let (w, fourth, same) = bind_ok (matrix_in key.MatD p m t) (λ w.
-    Ok (coefficients.Ss (item_count vs) x y z w)) c h4 in
+    Ok (coefficients.Ss (item_count vs) x y z w)) c past_third in
     ap form_of (same_ok (coefficients.Ss (item_count vs) x y z w) c same)
 read_as form.Lattice m p t c h =
-    let (k, first, h1) = bind_ok (reflections_in t) _ c h in
-    let (v, second, same) = bind_ok (taps_in (length k) t) (λ v. Ok (coefficients.Lattice k v)) c h1 in
+    let (k, first, past_first) = bind_ok (reflections_in t) _ c h in
+    let (v, second, same) = bind_ok (taps_in (length k) t) (λ v. Ok (coefficients.Lattice k v)) c past_first in
     ap form_of (same_ok (coefficients.Lattice k v) c same)
 
 pub coefficients_read : (form : Form) (m p : ℕ) (t : Members) (c : Coefficients) →

@@ -212,10 +212,10 @@ near_read : (low : ℤ) (bits r : ℕ) (o : OutputEntry) (u : Unit {0}) → outp
     })
 near_read low bits r o u h =
     let d = low -ℤ o.low in
-    let (u1, below, h1) = bind_ok
+    let (u1, below, past_below) = bind_ok
     (unless (Limit key.OutputsLow d LOW_DIFFERENCES.low) (not (lt_z d LOW_DIFFERENCES.low))) _ u h in
     let (u2, above, wide) = bind_ok
-    (unless (Limit key.OutputsLow d LOW_DIFFERENCES.high) (not (lt_z LOW_DIFFERENCES.high d))) _ u h1 in
+    (unless (Limit key.OutputsLow d LOW_DIFFERENCES.high) (not (lt_z LOW_DIFFERENCES.high d))) _ u past_below in
     let test = unless_ok _ _ u wide in
     record {
       low = (
@@ -325,13 +325,13 @@ filter_of_form t form ports c settings u v is head held described chosen one nea
 pub filter_read : (t : Members) (f : Filter) → filter_in t ≡ Ok f → Describes t f
 unfolding filter_in
 filter_read t f h =
-    let (form, head, h1) = bind_ok (head_in t) _ f h in
-    let (ports, both, h2) = bind_ok (ports_in t) _ f h1 in
-    let (c, lists, h3) = bind_ok (coefficients_in form (length ports.inputs.formats) (length ports.outputs) t) _ f h2 in
-    let (settings, chosen, h4) = bind_ok (settings_in form t) _ f h3 in
-    let (u, one, h5) = bind_ok (single form (length ports.inputs.formats) (length ports.outputs)) _ f h4 in
+    let (form, head, past_head) = bind_ok (head_in t) _ f h in
+    let (ports, both, past_both) = bind_ok (ports_in t) _ f past_head in
+    let (c, lists, past_lists) = bind_ok (coefficients_in form (length ports.inputs.formats) (length ports.outputs) t) _ f past_both in
+    let (settings, chosen, past_chosen) = bind_ok (settings_in form t) _ f past_lists in
+    let (u, one, past_one) = bind_ok (single form (length ports.inputs.formats) (length ports.outputs)) _ f past_chosen in
     let (v, near, same) = bind_ok (outputs_fit ports.inputs.low settings.accumulator ports.outputs) (λ v.
-    Ok (assembled ports c settings)) f h5 in
+    Ok (assembled ports c settings)) f past_one in
     subst (Describes t) (same_ok (assembled ports c settings) f same)
     (filter_of_form t form ports c settings u v
     (read_as form (length ports.inputs.formats) (length ports.outputs) t c lists) (head_read t form head)

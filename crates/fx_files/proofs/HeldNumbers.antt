@@ -177,11 +177,11 @@ entries_whole k (item v vs) (n ∷ ns) h = let number = h.0.number in rw number 
 list_read : (k : Key) (v : Data) (ns : List ℕ) → pos 0 ≤ℤ (range_of k).low → naturals k v ≡ Ok ns → AreNaturals k ns v
 unfolding naturals
 list_read k v ns low h =
-    let (vs, list, h1) = bind_ok (list_at k v) _ ns h in
-    let (u1, whole, h2) = bind_ok (all_whole k vs) _ ns h1 in
-    let (u2, any, h3) = bind_ok (some k vs) _ ns h2 in
-    let (u3, few, h4) = bind_ok (at_most k vs) _ ns h3 in
-    let each = naturals_entries k vs ns low h4 in
+    let (vs, list, past_list) = bind_ok (list_at k v) _ ns h in
+    let (u1, whole, past_whole) = bind_ok (all_whole k vs) _ ns past_list in
+    let (u2, any, past_any) = bind_ok (some k vs) _ ns past_whole in
+    let (u3, few, past_few) = bind_ok (at_most k vs) _ ns past_any in
+    let each = naturals_entries k vs ns low past_few in
     record {
       entries = and_some (as_array v) (Each (IsNaturalOf k) ns) vs (fault_ok (WrongKind k) (as_array v) vs list) each;
       count = subst (CountFits k) (count_of (IsNaturalOf k) ns vs each)

@@ -103,9 +103,9 @@ list_of says xs k t h =
 pub entries_listed : (k : Key) (t : Members) (vs : Items) → entries_in k t ≡ Ok vs → IsListed k t vs
 unfolding entries_in
 entries_listed k t vs h =
-    let (v, there, h1) = bind_ok (needed k t) _ vs h in
-    let (ws, list, h2) = bind_ok (list_at k v) _ vs h1 in
-    let (u, all, same) = bind_ok (all_numerals k ws) _ vs h2 in
+    let (v, there, past_there) = bind_ok (needed k t) _ vs h in
+    let (ws, list, past_list) = bind_ok (list_at k v) _ vs past_there in
+    let (u, all, same) = bind_ok (all_numerals k ws) _ vs past_list in
     record {
       value = v;
       there = fault_ok (Missing k) (value_at k t) v there;
@@ -126,9 +126,9 @@ listed_entries k t vs cs h each =
 pub rows_listed : (k : Key) (t : Members) (vs : Items) → rows_in k t ≡ Ok vs → IsListed k t vs
 unfolding rows_in
 rows_listed k t vs h =
-    let (v, there, h1) = bind_ok (needed k t) _ vs h in
-    let (ws, list, h2) = bind_ok (list_at k v) _ vs h1 in
-    let (u, all, same) = bind_ok (all_rows k ws) _ vs h2 in
+    let (v, there, past_there) = bind_ok (needed k t) _ vs h in
+    let (ws, list, past_list) = bind_ok (list_at k v) _ vs past_there in
+    let (u, all, same) = bind_ok (all_rows k ws) _ vs past_list in
     record {
       value = v;
       there = fault_ok (Missing k) (value_at k t) v there;
@@ -169,8 +169,8 @@ row_read : (k : Key) (width : ℕ) (v : Data) (es : Items) → row_of k width v 
     (as_array v ≡ Some es) × (item_count es ≡ width)
 unfolding row_of
 row_read k width v es h =
-    let (ds, list, h1) = bind_ok (list_at k v) _ es h in
-    let (u, exact, same) = bind_ok (exactly k width ds) _ es h1 in
+    let (ds, list, past_list) = bind_ok (list_at k v) _ es h in
+    let (u, exact, same) = bind_ok (exactly k width ds) _ es past_list in
     let is : ds ≡ es = same_ok ds es same in (
       fault_ok (WrongKind k) (as_array v) ds list ∙ ap (λ (x : Items). Some x) is,
       ap (λ (x : Items). item_count x) (sym is) ∙ exact_count k width ds u exact,
@@ -195,9 +195,9 @@ unfolding each_row
 rows_read k width place no_items cs h =
     record { rows = []; stand = tt; wide = All-nil _; joined = sym (same_ok [] cs h) }
 rows_read k width place (item v vs) cs h =
-    let (es, row, h1) = bind_ok (row_of k width v) _ cs h in
-    let (xs, first, h2) = bind_ok (each_numeral k place es) _ cs h1 in
-    let (ys, others, same) = bind_ok (each_row k width (place + width) vs) _ cs h2 in
+    let (es, row, past_row) = bind_ok (row_of k width v) _ cs h in
+    let (xs, first, past_first) = bind_ok (each_numeral k place es) _ cs past_row in
+    let (ys, others, same) = bind_ok (each_row k width (place + width) vs) _ cs past_first in
     let (list, count) = row_read k width v es row in
     let each = numerals_entries k place es xs first in
     let rest = rows_read k width (place + width) vs ys others in

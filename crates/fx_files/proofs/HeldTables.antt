@@ -127,11 +127,11 @@ pub tables_listed : (k : Key) (t : Members) (vs : Items) → tables_in k t ≡ O
     IsListed k t vs × CountFits k (item_count vs)
 unfolding tables_in
 tables_listed k t vs h =
-    let (v, there, h1) = bind_ok (needed k t) _ vs h in
-    let (ws, list, h2) = bind_ok (list_at k v) _ vs h1 in
-    let (u1, all, h3) = bind_ok (all_tables k ws) _ vs h2 in
-    let (u2, any, h4) = bind_ok (some k ws) _ vs h3 in
-    let (u3, few, same) = bind_ok (at_most k ws) _ vs h4 in
+    let (v, there, past_there) = bind_ok (needed k t) _ vs h in
+    let (ws, list, past_list) = bind_ok (list_at k v) _ vs past_there in
+    let (u1, all, past_all) = bind_ok (all_tables k ws) _ vs past_list in
+    let (u2, any, past_any) = bind_ok (some k ws) _ vs past_all in
+    let (u3, few, same) = bind_ok (at_most k ws) _ vs past_any in
     let is : ws ≡ vs = same_ok ws vs same in (
       record {
         value = v;
@@ -162,9 +162,9 @@ listed_tables describes k t vs xs h each count =
 pub input_read : (t : Members) (i : InputFormat) → input_in t ≡ Ok i → DescribesInput t i
 unfolding input_in
 input_read t i h =
-    let (u, keys, h1) = bind_ok (only_keys (key.InputsWidth ∷ key.InputsBound ∷ []) t) _ i h in
-    let (width, wide, h2) = bind_ok (natural_in key.InputsWidth t) _ i h1 in
-    let (bound, high, same) = bind_ok (whole_or key.InputsBound (bounds_of width) (Some (top_word width)) t) _ i h2 in
+    let (u, keys, past_keys) = bind_ok (only_keys (key.InputsWidth ∷ key.InputsBound ∷ []) t) _ i h in
+    let (width, wide, past_wide) = bind_ok (natural_in key.InputsWidth t) _ i past_keys in
+    let (bound, high, same) = bind_ok (whole_or key.InputsBound (bounds_of width) (Some (top_word width)) t) _ i past_wide in
     subst (DescribesInput t) (same_ok (record { width = width; bound = bound }) i same)
     (record {
       keys = only_read _ t u keys;
@@ -185,9 +185,9 @@ unfolding each_input
 inputs_each no_items is h =
     subst (λ (xs : List InputFormat). Each (IsTableOf DescribesInput) xs no_items) (same_ok [] is h) tt
 inputs_each (item v vs) is h =
-    let (t, table, h1) = bind_ok (or_fault (WrongKind key.Inputs) (as_table v)) _ is h in
-    let (x, first, h2) = bind_ok (input_in t) _ is h1 in
-    let (xs, others, same) = bind_ok (each_input vs) _ is h2 in
+    let (t, table, past_table) = bind_ok (or_fault (WrongKind key.Inputs) (as_table v)) _ is h in
+    let (x, first, past_first) = bind_ok (input_in t) _ is past_table in
+    let (xs, others, same) = bind_ok (each_input vs) _ is past_first in
     subst (λ (ys : List InputFormat). Each (IsTableOf DescribesInput) ys (item v vs)) (same_ok (x ∷ xs) is same) (
       and_some (as_table v) (λ t. DescribesInput t x) t (fault_ok (WrongKind key.Inputs) (as_table v) t table)
           (input_read t x first),
@@ -221,10 +221,10 @@ error_read : (place : ℕ) (t : Members) (c : Fraction) → error_in place t ≡
     IsSomeAnd (value_at key.OutputsError t) (IsNumeralOf c) × (pos 0 ≤ℤ c.num)
 unfolding error_in
 error_read place t c h =
-    let (v, there, h1) = bind_ok (needed key.OutputsError t) _ c h in
-    let (x, meant, h2) = bind_ok (numeral_at key.OutputsError place v) _ c h1 in
+    let (v, there, past_there) = bind_ok (needed key.OutputsError t) _ c h in
+    let (x, meant, past_meant) = bind_ok (numeral_at key.OutputsError place v) _ c past_there in
     let (u, above, same) = bind_ok
-    (unless (Limit key.OutputsError (pos place) (pos 0)) (not (lt_z x.num (pos 0)))) _ c h2 in
+    (unless (Limit key.OutputsError (pos place) (pos 0)) (not (lt_z x.num (pos 0)))) _ c past_meant in
     let sign = lt_z_no {a = x.num} {b =
     pos 0} (sure_no (lt_z x.num (pos 0)) (not_true (lt_z x.num (pos 0)) (unless_ok _ _ u above))) in
     subst (λ (y : Fraction). IsSomeAnd (value_at key.OutputsError t) (IsNumeralOf y) × (pos 0 ≤ℤ y.num))
@@ -250,10 +250,10 @@ entry_read : (input_low : ℤ) (place : ℕ) (t : Members) (o : OutputEntry) →
     DescribesEntry input_low t o
 unfolding output_in
 entry_read input_low place t o h =
-    let (u, keys, h1) = bind_ok (only_keys (key.OutputsWidth ∷ key.OutputsLow ∷ key.OutputsError ∷ []) t) _ o h in
-    let (width, wide, h2) = bind_ok (natural_in key.OutputsWidth t) _ o h1 in
-    let (low, held, h3) = bind_ok (whole_or key.OutputsLow LOWS (Some input_low) t) _ o h2 in
-    let (error, off, same) = bind_ok (error_in place t) _ o h3 in
+    let (u, keys, past_keys) = bind_ok (only_keys (key.OutputsWidth ∷ key.OutputsLow ∷ key.OutputsError ∷ []) t) _ o h in
+    let (width, wide, past_wide) = bind_ok (natural_in key.OutputsWidth t) _ o past_keys in
+    let (low, held, past_held) = bind_ok (whole_or key.OutputsLow LOWS (Some input_low) t) _ o past_wide in
+    let (error, off, same) = bind_ok (error_in place t) _ o past_held in
     let e = error_read place t error off in
     subst (DescribesEntry input_low t) (same_ok (record { width = width; low = low; error = error }) o same)
     (record {
@@ -282,9 +282,9 @@ entries_each input_low place no_items os h =
     subst (λ (xs : List OutputEntry). Each (IsTableOf (DescribesEntry input_low)) xs no_items)
     (same_ok [] os h) tt
 entries_each input_low place (item v vs) os h =
-    let (t, table, h1) = bind_ok (or_fault (WrongKind key.Outputs) (as_table v)) _ os h in
-    let (x, first, h2) = bind_ok (output_in input_low place t) _ os h1 in
-    let (xs, others, same) = bind_ok (each_output input_low (place + 1) vs) _ os h2 in
+    let (t, table, past_table) = bind_ok (or_fault (WrongKind key.Outputs) (as_table v)) _ os h in
+    let (x, first, past_first) = bind_ok (output_in input_low place t) _ os past_table in
+    let (xs, others, same) = bind_ok (each_output input_low (place + 1) vs) _ os past_first in
     subst (λ (ys : List OutputEntry). Each (IsTableOf (DescribesEntry input_low)) ys (item v vs))
     (same_ok (x ∷ xs) os same) (
       and_some (as_table v) (λ t. DescribesEntry input_low t x) t
@@ -326,12 +326,12 @@ tables_held describes k t vs xs h each =
 pub ports_read : (t : Members) (ports : Ports) → ports_in t ≡ Ok ports → PortsHeld t ports
 unfolding ports_in inputs_in outputs_in
 ports_read t ports h =
-    let (inputs, h1, h2) = bind_ok (inputs_in t) _ ports h in
-    let (outputs, h3, same) = bind_ok (outputs_in inputs.low t) _ ports h2 in
-    let (low, low_held, h4) = bind_ok (whole_in key.InputLow t) _ inputs h1 in
-    let (vs, tables, h5) = bind_ok (tables_in key.Inputs t) _ inputs h4 in
-    let (formats, each, same_inputs) = bind_ok (each_input vs) _ inputs h5 in
-    let (ws, out_tables, out_each) = bind_ok (tables_in key.Outputs t) _ outputs h3 in
+    let (inputs, into, past_inputs) = bind_ok (inputs_in t) _ ports h in
+    let (outputs, out, same) = bind_ok (outputs_in inputs.low t) _ ports past_inputs in
+    let (low, low_held, past_low_held) = bind_ok (whole_in key.InputLow t) _ inputs into in
+    let (vs, tables, past_tables) = bind_ok (tables_in key.Inputs t) _ inputs past_low_held in
+    let (formats, each, same_inputs) = bind_ok (each_input vs) _ inputs past_tables in
+    let (ws, out_tables, out_each) = bind_ok (tables_in key.Outputs t) _ outputs out in
     let is : record { low = low; formats = formats } ≡ inputs = same_ok _ inputs same_inputs in
     let record_is : ◌≡◌ {A = Ports} (record { inputs = inputs; outputs = outputs }) ports = same_ok _ ports same in
     subst (PortsHeld t) record_is
