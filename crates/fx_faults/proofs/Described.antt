@@ -53,9 +53,6 @@ own_there file k owner v is there = subst (λ (t : Members). value_at k t ≡ So
 pub same_data : (x y : Data) → ◌≡◌ {A = Option Data} (Some x) (Some y) → x ≡ y
 same_data x y h = cc
 
-pub same_items : (x y : Items) → ◌≡◌ {A = Option Items} (Some x) (Some y) → x ≡ y
-same_items x y h = cc
-
 pub each_at : {A : Type 0} (says : A → Data → Type 0) (xs : List A) (vs : Items) (n : ℕ) (v : Data) →
     Each says xs vs → get_item n vs ≡ Some v → (x : A) × (slice_get xs n ≡ Some x) × says x v
 each_at says [] no_items n v h there = absurd cc

@@ -39,21 +39,14 @@ use Rattle.fx_files.specs.Forms.{form_text, form_word, structure_word, known_key
 use Rattle.fx_files.specs.Head.{form_in, head_in}
 use Rattle.fx_files.specs.Settings.{structure_at, structure_in}
 use Rattle.fx_files.specs.declared.forms.Structure.{Structure}
+use Rattle.fx_files.proofs.HeldChoices.{form_is}
+use Rattle.fx_files.proofs.HeldTables.{found_later, same_itself}
 use Rattle.fx_faults.specs.Faults.{words_of}
 use Rattle.fx_faults.specs.Places.{keys_in}
 use Rattle.fx_faults.proofs.Listed.{is_string}
 use Rattle.fx_faults.proofs.KeyFaults.{own_value, missing_true, kind_true}
 
 -- ---- unknown keys
-
-same_itself : (k : List ℕ) → slice_cmp nat_cmp k k ≡ Equal
-same_itself k = (Equal-is (slice_cmp nat_cmp k k)).0 (is_eq-slice_cmp k k ∙ (bytes_eq-Decides k k).1 refl)
-
-found_later : (o : Ordering) (d : Data) (rest : Option Data) → IsSome rest →
-    IsSome (match_ordering o rest (Some d) rest)
-found_later Less d rest h = h
-found_later Equal d rest h = refl
-found_later Greater d rest h = h
 
 keys_fault : {W : Type 0} (known : List Key) (t : Members) (f : FilterFault) → only_keys known t ≡ Err f →
     ((text : List ℕ) → IsSome (get_member text t) → is_known known text ≡ false → UnknownKey text ≡ f → W) → W
@@ -186,10 +179,6 @@ pub structure_true : (file : Members) (form : Form) (f : FilterFault) → struct
 structure_true file form f h = structure_here file form (value_at key.Structure file) f refl h
 
 -- ---- the form, and the keys that a file of it may have
-
-form_is : (text : List ℕ) (f g : Form) → ◌≡◌ {A = Option Form} (Some f) (Some g) → text ≡ form_text f →
-    text ≡ form_text g
-form_is text f g same h = let e : f ≡ g = cc in subst (λ (x : Form). text ≡ form_text x) e h
 
 named_so : (text word : List ℕ) → bytes_eq text word ≡ true → text ≡ word
 named_so text word h = (bytes_eq-Decides text word).0 h

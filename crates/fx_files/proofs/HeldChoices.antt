@@ -77,7 +77,7 @@ use Rattle.fx_files.proofs.HeldTables.{only_read, only_stands}
 named : (text word : List ℕ) → bytes_eq text word ≡ true → text ≡ word
 named text word h = (bytes_eq-Decides text word).0 h
 
-form_is : (text : List ℕ) (f g : Form) → ◌≡◌ {A = Option Form} (Some f) (Some g) → text ≡ form_text f →
+pub form_is : (text : List ℕ) (f g : Form) → ◌≡◌ {A = Option Form} (Some f) (Some g) → text ≡ form_text f →
     text ≡ form_text g
 form_is text f g same h = let e : f ≡ g = cc in subst (λ (x : Form). text ≡ form_text x) e h
 

@@ -72,13 +72,13 @@ use Rattle.fx_files.proofs.HeldNumerals.{rows_listed}
 
 -- ---- no other key
 
-same_itself : (k : List ℕ) → slice_cmp nat_cmp k k ≡ Equal
+pub same_itself : (k : List ℕ) → slice_cmp nat_cmp k k ≡ Equal
 same_itself k = (Equal-is (slice_cmp nat_cmp k k)).0 (is_eq-slice_cmp k k ∙ (bytes_eq-Decides k k).1 refl)
 
 same_bytes : (l j : List ℕ) → slice_cmp nat_cmp l j ≡ Equal → l ≡ j
 same_bytes l j e = (bytes_eq-Decides l j).0 (sym (is_eq-slice_cmp l j) ∙ (Equal-is (slice_cmp nat_cmp l j)).1 e)
 
-found_later : (o : Ordering) (d : Data) (rest : Option Data) → IsSome rest →
+pub found_later : (o : Ordering) (d : Data) (rest : Option Data) → IsSome rest →
     IsSome (match_ordering o rest (Some d) rest)
 found_later Less d rest h = h
 found_later Equal d rest h = refl

@@ -1,5 +1,5 @@
 -- A chain of steps gives a value exactly where each step gives one.
-use Rattle.std.proofs.Common.{◌≡◌, Bool, true, false, Option, Some, None, Result, Ok, Err, refl, inl, inr, ◌⊎◌}
+use Rattle.std.proofs.Common.{◌≡◌, Bool, true, false, Option, Some, None, Result, Ok, Err, refl}
 use Rattle.std.specs.Prelude.{IsSomeAnd}
 use Rattle.fx_math.specs.Faults.{◌>>=◌, or_fault, unless}
 
@@ -11,11 +11,6 @@ bind_ok (Err e) f y h = absurd cc
 pub bind_stands : {F A B : Type 0} (r : Result A F) (f : A → Result B F) (x : A) (y : B) → r ≡ Ok x →
     f x ≡ Ok y → (r >>= f) ≡ Ok y
 bind_stands r f x y h k = rw h k
-
-pub bind_err : {F A B : Type 0} (r : Result A F) (f : A → Result B F) (e : F) → (r >>= f) ≡ Err e →
-    (r ≡ Err e) ⊎ ((x : A) × (r ≡ Ok x) × (f x ≡ Err e))
-bind_err (Ok x) f e h = inr (x, refl, h)
-bind_err (Err g) f e h = inl cc
 
 pub same_ok : {F A : Type 0} (x y : A) → ◌≡◌ {A = Result A F} (Ok x) (Ok y) → x ≡ y
 same_ok x y h = cc
@@ -31,19 +26,12 @@ pub unless_ok : {F : Type 0} (e : F) (b : Bool) (u : Unit {0}) → unless e b �
 unless_ok e true u h = refl
 unless_ok e false u h = absurd cc
 
-pub unless_err : {F : Type 0} (e g : F) (b : Bool) → unless e b ≡ Err g → (b ≡ false) × (g ≡ e)
-unless_err e g true h = absurd cc
-unless_err e g false h = (refl, cc)
-
 pub some_and : {A : Type 0} (o : Option A) (P : A → Type 0) → IsSomeAnd o P → (x : A) × (o ≡ Some x) × P x
 some_and None P h = absurd h
 some_and (Some x) P h = (x, refl, h)
 
 pub and_some : {A : Type 0} (o : Option A) (P : A → Type 0) (x : A) → o ≡ Some x → P x → IsSomeAnd o P
 and_some o P x h p = rw h p
-
-pub same_err : {F A : Type 0} (e f : F) → ◌≡◌ {A = Result A F} (Err e) (Err f) → e ≡ f
-same_err e f h = cc
 
 pub fault_err : {F A : Type 0} (e g : F) (o : Option A) → or_fault e o ≡ Err g → (o ≡ None) × (e ≡ g)
 fault_err e g None h = (refl, cc)
