@@ -1,6 +1,6 @@
 -- Totals bound their targets for all time.
-use Rattle.fx_sweep.specs.AllTime.{BoundsHoldForAllTime, BoundsSuffice}
-use Rattle.fx_sweep.specs.Laws.{TotalsBound}
+use Rattle.fx_totals.specs.AllTime.{BoundsHoldForAllTime, BoundsSuffice}
+use Rattle.fx_totals.specs.Laws.{TotalsBound}
 use Rattle.fx_block.specs.Laws.{TotalsServeForAllTime}
 
 pub totals_serve : TotalsBound → BoundsHoldForAllTime → BoundsSuffice → TotalsServeForAllTime

@@ -23,12 +23,12 @@ use Rattle.fx_code.specs.Fits.{CodeFits}
 use Rattle.fx_code.specs.Joint.{JointCommon}
 use Rattle.fx_code.specs.Run.{words}
 use Rattle.fx_code.specs.declared.limits.TheConstants.{LONGEST_SHIFT}
-use Rattle.fx_sweep.specs.AllTime.{BoundsHoldForAllTime, ValuesWithin}
-use Rattle.fx_sweep.specs.Bounds.{target_value}
-use Rattle.fx_sweep.specs.Laws.{PairTargets}
 use Rattle.fx_sweep.specs.Target.{one, power, start_of}
-use Rattle.fx_sweep.specs.Totals.{target_total}
 use Rattle.fx_sweep.specs.declared.target.Target.TheVariants.{Pair}
+use Rattle.fx_totals.specs.AllTime.{BoundsHoldForAllTime, ValuesWithin}
+use Rattle.fx_totals.specs.Bounds.{target_value}
+use Rattle.fx_totals.specs.Laws.{PairTargets}
+use Rattle.fx_totals.specs.Totals.{target_total}
 use Rattle.fx_block.specs.Ideal.{ideal}
 use Rattle.fx_block.specs.Joint.{count_of, joint_values, net_of, original_row, perturbations_of}
 use Rattle.fx_block.specs.Laws.{BoundedRowsAreExact, ExpandedRowsAreWithin, HoldsBoth, IsJointRun}

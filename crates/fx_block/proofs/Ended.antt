@@ -1,9 +1,9 @@
 -- What an answer says of the bounds that raises find.
 use Rattle.std.proofs.Common.{◌≡◌, ℕ, ◌<◌, ◌≤◌, sym, ◌∙◌, ap, true, false, List, arith, refl}
 use Rattle.fx_net.specs.Net.{Net}
-use Rattle.fx_sweep.specs.Filled.{Filled, length_in}
-use Rattle.fx_sweep.specs.Kept.{Kept}
 use Rattle.fx_sweep.specs.declared.target.Target.{Target}
+use Rattle.fx_totals.specs.Filled.{Filled, length_in}
+use Rattle.fx_totals.specs.Kept.{Kept}
 use Rattle.fx_block.specs.Least.{AllServe, AreLeastBounds}
 use Rattle.fx_block.specs.Raising.{OverHasNone, Raises, RestIsLeast, least_by_raises}
 use Rattle.fx_block.specs.Raising.Raises.{Rest, Over, Slow}

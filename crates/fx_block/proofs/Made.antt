@@ -22,10 +22,10 @@ use Rattle.fx_code.specs.NetRows.{bare_at, bare_rows, put_bare_rows}
 use Rattle.fx_cert.specs.Certificate.{Certificate}
 use Rattle.fx_sweep.specs.Range.{first_range_in}
 use Rattle.fx_sweep.specs.Target.{start_of}
-use Rattle.fx_sweep.specs.Totals.{target_total}
 use Rattle.fx_sweep.specs.declared.target.RangeAt.{RangeAt}
 use Rattle.fx_sweep.specs.declared.target.Target.{Target}
 use Rattle.fx_sweep.specs.declared.target.Target.TheVariants.{Pair, Row}
+use Rattle.fx_totals.specs.Totals.{target_total}
 use Rattle.fx_block.specs.Candidate.{Trial, candidate_count, candidate_net, candidate_pair, candidate_range}
 use Rattle.fx_block.specs.Candidate.{candidate_total, cap_of, first_above, first_target, inner_count, most_width}
 use Rattle.fx_block.specs.Candidate.{trial, with_bounds, with_errors, with_range}

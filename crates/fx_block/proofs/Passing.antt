@@ -17,7 +17,7 @@ use Rattle.fx_code.specs.Code.{Code, IsWhole}
 use Rattle.fx_code.specs.Fits.{CodeFits}
 use Rattle.fx_code.specs.Inputs.{word_at}
 use Rattle.fx_cert.specs.Certificate.{Certificate, CertificateFits, output_length, row_length}
-use Rattle.fx_sweep.specs.AllTime.{WordsWithin}
+use Rattle.fx_totals.specs.AllTime.{WordsWithin}
 use Rattle.fx_block.specs.Admissible.{IsAdmissible, IsAdmissibleMoment}
 use Rattle.fx_block.specs.Certified.{PassingIsSound, OriginalStaysWithin}
 use Rattle.fx_block.specs.Formats.{bound_of, input_at, output_at, shift_of}

@@ -11,15 +11,15 @@ use Rattle.std.proofs.lemmas.List.{get_or_past}
 use Rattle.fx_math.specs.Division.{ceil_div}
 use Rattle.fx_nums.specs.declared.limits.TheConstants.{SCALE_BITS}
 use Rattle.fx_net.specs.Net.{Net}
-use Rattle.fx_sweep.specs.Filled.{Filled, length_in, target_in}
-use Rattle.fx_sweep.specs.Kept.{AreBounds, AreUpTo, IsUpTo, Kept, bound_in, greatest_bound, kept_total}
 use Rattle.fx_sweep.specs.Swept.{whole_in}
 use Rattle.fx_sweep.specs.Target.{one, start_of}
-use Rattle.fx_sweep.specs.AllTime.{ServesNext}
-use Rattle.fx_sweep.specs.Totals.{target_total}
 use Rattle.fx_sweep.specs.declared.target.Target.{Target}
 use Rattle.fx_sweep.specs.declared.target.Target.TheVariants.{Row}
-use Rattle.fx_sweep.proofs.Kept.{held_total}
+use Rattle.fx_totals.specs.Filled.{Filled, length_in, target_in}
+use Rattle.fx_totals.specs.Kept.{AreBounds, AreUpTo, IsUpTo, Kept, bound_in, greatest_bound, kept_total}
+use Rattle.fx_totals.specs.AllTime.{ServesNext}
+use Rattle.fx_totals.specs.Totals.{target_total}
+use Rattle.fx_totals.proofs.Kept.{held_total}
 use Rattle.fx_block.specs.Raising.{raise, first_row, Raises, ended, raises_by, least_by_raises}
 use Rattle.fx_block.specs.Raising.Raises.{Slow}
 use Rattle.fx_block.specs.Told.{Tells, is_slow, kept_raise}

@@ -12,10 +12,10 @@ use Rattle.fx_math.specs.Division.{ceil_div}
 use Rattle.fx_math.proofs.Division.{ceil_above, ceil_below, cancel_lt}
 use Rattle.fx_nums.specs.declared.limits.TheConstants.{SCALE_BITS}
 use Rattle.fx_net.specs.Net.{Net}
-use Rattle.fx_sweep.specs.Growth.{NoTotalIsNegative, TotalsGrow}
 use Rattle.fx_sweep.specs.Target.{start_of}
-use Rattle.fx_sweep.specs.Totals.{target_total}
 use Rattle.fx_sweep.specs.declared.target.Target.TheVariants.{Row}
+use Rattle.fx_totals.specs.Growth.{NoTotalIsNegative, TotalsGrow}
+use Rattle.fx_totals.specs.Totals.{target_total}
 use Rattle.fx_block.specs.Least.{AllServe, AreLeastBounds}
 use Rattle.fx_block.specs.Raising.{raised_bound, raise, first_row, Raises, ended, ended_by, raises, RestIsLeast}
 use Rattle.fx_block.specs.Raising.{OverHasNone}

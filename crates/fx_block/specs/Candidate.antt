@@ -11,10 +11,10 @@ use Rattle.fx_code.specs.Code.{BareRow}
 use Rattle.fx_code.specs.NetRows.{bare_at, put_bare_rows}
 use Rattle.fx_sweep.specs.Range.{first_range_in}
 use Rattle.fx_sweep.specs.Target.{start_of}
-use Rattle.fx_sweep.specs.Totals.{target_total}
 use Rattle.fx_sweep.specs.declared.target.RangeAt.{RangeAt}
 use Rattle.fx_sweep.specs.declared.target.Target.{Target}
 use Rattle.fx_sweep.specs.declared.target.Target.TheVariants.{Row, Pair}
+use Rattle.fx_totals.specs.Totals.{target_total}
 use Rattle.fx_block.specs.Formats.{bound_of, output_at, shift_of}
 use Rattle.fx_block.specs.Raising.{Raises, least_by_raises}
 use Rattle.fx_block.specs.Raising.Raises.{Rest, Over, Slow}

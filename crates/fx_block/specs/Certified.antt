@@ -7,7 +7,7 @@ use Rattle.fx_net.specs.Net.{Net}
 use Rattle.fx_code.specs.Code.{Code, IsWhole}
 use Rattle.fx_code.specs.Inputs.{word_at}
 use Rattle.fx_cert.specs.Certificate.{Certificate}
-use Rattle.fx_sweep.specs.Bounds.{IsWithin}
+use Rattle.fx_totals.specs.Bounds.{IsWithin}
 use Rattle.fx_block.specs.Admissible.{IsAdmissible}
 use Rattle.fx_block.specs.Failure.{first_failure}
 use Rattle.fx_block.specs.Passes.{bound_at, Passes}

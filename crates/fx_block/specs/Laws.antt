@@ -14,13 +14,13 @@ use Rattle.fx_code.specs.Joint.{joint_net}
 use Rattle.fx_code.specs.Laws.{IsFloored}
 use Rattle.fx_code.specs.NetRows.{HoldsCode}
 use Rattle.fx_code.specs.Run.{words, IsExact}
-use Rattle.fx_sweep.specs.AllTime.{BoundsServe, WordsWithin}
-use Rattle.fx_sweep.specs.Bounds.{IsWithin, target_value}
 use Rattle.fx_sweep.specs.Target.{TargetFits, start_of}
-use Rattle.fx_sweep.specs.Totals.{target_total}
 use Rattle.fx_sweep.specs.declared.limits.TheConstants.{GREATEST_SHIFT}
 use Rattle.fx_sweep.specs.declared.target.Target.{Target}
 use Rattle.fx_sweep.specs.declared.target.Target.TheVariants.{Pair}
+use Rattle.fx_totals.specs.AllTime.{BoundsServe, WordsWithin}
+use Rattle.fx_totals.specs.Bounds.{IsWithin, target_value}
+use Rattle.fx_totals.specs.Totals.{target_total}
 use Rattle.fx_block.specs.Ideal.{ideal, WidthsHold}
 use Rattle.fx_block.specs.Joint.{count_of, joint_values, net_of, original_row, perturbations_of}
 use Rattle.fx_block.specs.Near.{IsNearExact}

@@ -1,7 +1,7 @@
 -- The least bounds of rows.
 use Rattle.std.specs.Prelude.{ℕ, ◌<◌, ◌≤◌}
 use Rattle.fx_net.specs.Net.{Net}
-use Rattle.fx_sweep.specs.AllTime.{ServesNext}
+use Rattle.fx_totals.specs.AllTime.{ServesNext}
 
 -- the bounds of the first n rows, each of which serves the next value too, after so many moments
 abbrev pub AllServe : Net → ℕ → (ℕ → ℕ) → (ℕ → ℕ) → (ℕ → ℕ) → Type 0

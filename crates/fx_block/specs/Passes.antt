@@ -7,10 +7,10 @@ use Rattle.fx_code.specs.Code.{Code, row_at}
 use Rattle.fx_cert.specs.Certificate.{Certificate, output_length, row_length}
 use Rattle.fx_sweep.specs.Range.{first_range_in}
 use Rattle.fx_sweep.specs.Target.{one, start_of}
-use Rattle.fx_sweep.specs.Totals.{target_total}
 use Rattle.fx_sweep.specs.declared.target.RangeAt.{RangeAt}
 use Rattle.fx_sweep.specs.declared.target.Target.{Target}
 use Rattle.fx_sweep.specs.declared.target.Target.TheVariants.{Row, Pair}
+use Rattle.fx_totals.specs.Totals.{target_total}
 use Rattle.fx_block.specs.Formats.{bound_of, input_at, output_at, shift_of}
 use Rattle.fx_block.specs.Ideal.{WidthsHold}
 use Rattle.fx_block.specs.Joint.{count_of, net_of, original_row}

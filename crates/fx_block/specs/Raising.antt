@@ -6,8 +6,8 @@ use Rattle.fx_math.specs.Division.{ceil_div}
 use Rattle.fx_nums.specs.declared.limits.TheConstants.{SCALE_BITS}
 use Rattle.fx_net.specs.Net.{Net}
 use Rattle.fx_sweep.specs.Target.{start_of}
-use Rattle.fx_sweep.specs.Totals.{target_total}
 use Rattle.fx_sweep.specs.declared.target.Target.TheVariants.{Row}
+use Rattle.fx_totals.specs.Totals.{target_total}
 use Rattle.fx_block.specs.declared.least.TheConstants.{MOST_RAISES}
 use Rattle.fx_block.specs.Least.{AllServe, AreLeastBounds}
 

@@ -2,7 +2,7 @@
 use Rattle.std.specs.Prelude.{◌≡◌, ℕ, ◌^◌, Bool, true, false, nat_lt, cond, pos, unsigned_abs}
 use Rattle.fx_math.specs.Division.{ceil_div}
 use Rattle.fx_nums.specs.declared.limits.TheConstants.{SCALE_BITS}
-use Rattle.fx_sweep.specs.Kept.{Kept, kept_total}
+use Rattle.fx_totals.specs.Kept.{Kept, kept_total}
 use Rattle.fx_block.specs.Raising.{Raises}
 use Rattle.fx_block.specs.Raising.Raises.{Rest, Over, Slow}
 use Rattle.fx_block.specs.declared.least.Least.{Least}

@@ -17,7 +17,7 @@ use fx_math::unrolled_is_its_step;
 use fx_net::{
     expanded_rows_agree, expanded_rows_have_the_exact_values, other_rows_stay, rows_stand,
 };
-use fx_sweep::{bounds_hold_for_all_time, targets_have_these_values, totals_bound};
+use fx_totals::{bounds_hold_for_all_time, targets_have_these_values, totals_bound};
 
 /// A law with nothing to run: where each bound serves the next value too, the total of each target, of a row or of a
 /// pair, swept for any moments, bounds it at all moments, in each perturbed run on inputs within their bounds.

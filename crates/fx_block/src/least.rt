@@ -24,11 +24,11 @@ ghost use Rattle.std.specs.Prelude.{
 ghost use Rattle.fx_math.specs.Division.{ceil_div};
 ghost use Rattle.fx_net.specs.Net.{Net as AnyNet};
 ghost use Rattle.fx_nums.specs.declared.limits.TheConstants.{SCALE_BITS};
-ghost use Rattle.fx_sweep.specs.AllTime.{ServesNext};
-ghost use Rattle.fx_sweep.specs.Filled.{Filled, length_in};
-ghost use Rattle.fx_sweep.specs.Kept.{AreBounds, AreUpTo, IsUpTo, bound_in, greatest_bound};
 ghost use Rattle.fx_sweep.specs.Target.{one};
 ghost use Rattle.fx_sweep.specs.declared.target.Target.{Target as AnyTarget};
+ghost use Rattle.fx_totals.specs.AllTime.{ServesNext};
+ghost use Rattle.fx_totals.specs.Filled.{Filled, length_in};
+ghost use Rattle.fx_totals.specs.Kept.{AreBounds, AreUpTo, IsUpTo, bound_in, greatest_bound};
 ghost use Rattle.fx_block.specs.Least.{AllServe, AreLeastBounds};
 ghost use Rattle.fx_block.specs.Raising.{OverHasNone, RestIsLeast, ended_by, first_row, least_by_raises, raises_by};
 ghost use Rattle.fx_block.specs.Raising.Raises.{Slow as SlowOf};
@@ -38,7 +38,7 @@ ghost use Rattle.fx_block.specs.Told.{Tells, is_over, is_slow, kept_raise};
 
 use fx_eqs::PORTS;
 use fx_nums::SCALE_BITS;
-use fx_sweep::{TargetRange, Totals, totals_fit, totals_grow};
+use fx_totals::{TargetRange, Totals, totals_fit, totals_grow};
 
 /// So many raises of all bounds are tried.
 pub const MOST_RAISES: u32 = 64;

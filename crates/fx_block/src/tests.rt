@@ -1,15 +1,16 @@
 //! Least bounds of small nets, against numbers that were worked by hand.
 
 ghost use Rattle.std.specs.Prelude.{◌≡◌, ℕ, ◌<◌, ◌≤◌, length, IfOk, IsTrue};
-ghost use Rattle.fx_sweep.specs.Filled.{length_in};
-ghost use Rattle.fx_sweep.specs.Kept.{AreBounds};
 ghost use Rattle.fx_sweep.specs.declared.limits.TheConstants.{GREATEST_LENGTH};
+ghost use Rattle.fx_totals.specs.Filled.{length_in};
+ghost use Rattle.fx_totals.specs.Kept.{AreBounds};
 
 use crate::{Least, holds, least_bounds};
 use fx_eqs::PORTS;
 use fx_net::{Net, nets_fit};
 use fx_nums::{Den, Frac};
-use fx_sweep::{GREATEST_LENGTH, Sweep, Target, Totals};
+use fx_sweep::{GREATEST_LENGTH, Sweep, Target};
+use fx_totals::Totals;
 use std::alloc::Global;
 use std::process::Abort;
 use std::test::Fail;

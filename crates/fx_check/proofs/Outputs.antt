@@ -13,9 +13,9 @@ use Rattle.fx_net.proofs.Positions.{row_inside}
 use Rattle.fx_code.specs.Code.{Code}
 use Rattle.fx_code.specs.Fits.{CodeFits}
 use Rattle.fx_cert.specs.Certificate.{Certificate, output_length, row_length}
-use Rattle.fx_sweep.specs.Filled.{length_in, target_in}
 use Rattle.fx_sweep.specs.Target.{TargetFits}
 use Rattle.fx_sweep.specs.declared.target.Target.TheVariants.{Row}
+use Rattle.fx_totals.specs.Filled.{length_in, target_in}
 use Rattle.fx_block.specs.Formats.{output_at, shift_of}
 use Rattle.fx_block.specs.Joint.{original_row}
 use Rattle.fx_block.specs.Passes.{pair_of, row_count}

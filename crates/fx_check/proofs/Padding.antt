@@ -29,7 +29,7 @@ use Rattle.fx_code.specs.NetRows.{bare_rows, net_read, net_row, net_term, put_co
 use Rattle.fx_code.specs.declared.term.CodeTerm.{CodeTerm}
 use Rattle.fx_code.specs.declared.term.Read.{Read}
 use Rattle.fx_code.specs.declared.term.Read.TheVariants.{Now as NowRow, Old as OldRow, In as InPort}
-use Rattle.fx_sweep.specs.Padding.{IsPadded}
+use Rattle.fx_totals.specs.Padding.{IsPadded}
 
 -- ---- rows that read rows below n of the moment before
 

@@ -9,9 +9,9 @@ use Rattle.fx_eqs.specs.declared.limits.TheConstants.{PORTS}
 use Rattle.fx_nums.specs.Interval.{Interval}
 use Rattle.fx_net.specs.Net.{Net}
 use Rattle.fx_sweep.specs.Gains.{input_gain, rest, widths}
-use Rattle.fx_sweep.specs.Padding.{HasSameNumbers}
-use Rattle.fx_sweep.specs.Totals.{input_part, rest_part, rounding, width_part}
-use Rattle.fx_sweep.proofs.Padded.{total_shorter}
+use Rattle.fx_totals.specs.Padding.{HasSameNumbers}
+use Rattle.fx_totals.specs.Totals.{input_part, rest_part, rounding, width_part}
+use Rattle.fx_totals.proofs.Padded.{total_shorter}
 use Rattle.fx_files.specs.Filter.{Filter}
 use Rattle.fx_code.specs.Code.{Code}
 use Rattle.fx_cert.specs.Certificate.{Certificate}

@@ -15,16 +15,16 @@ use Rattle.fx_net.specs.Rows.{put_rows}
 use Rattle.fx_code.specs.Code.{Code, IsWhole}
 use Rattle.fx_code.specs.Fits.{CodeFits}
 use Rattle.fx_cert.specs.Certificate.{Certificate, CertificateFits, output_length}
-use Rattle.fx_sweep.specs.Filled.{CanBeFilled, first_target_range, length_in, target_in}
-use Rattle.fx_sweep.specs.Padding.{EmptyRowsChangeNothing, HasSameNumbers}
 use Rattle.fx_sweep.specs.Range.{first_range_in}
 use Rattle.fx_sweep.specs.Swept.{whole_in}
 use Rattle.fx_sweep.specs.Target.{TargetFits, start_of}
-use Rattle.fx_sweep.specs.Totals.{target_total}
 use Rattle.fx_sweep.specs.declared.target.RangeAt.{RangeAt}
 use Rattle.fx_sweep.specs.declared.target.Target.{Target}
 use Rattle.fx_sweep.specs.declared.target.Target.TheVariants.{Row, Pair}
-use Rattle.fx_sweep.specs.declared.target.TargetRange.{TargetRange}
+use Rattle.fx_totals.specs.Filled.{CanBeFilled, first_target_range, length_in, target_in}
+use Rattle.fx_totals.specs.Padding.{EmptyRowsChangeNothing, HasSameNumbers}
+use Rattle.fx_totals.specs.Totals.{target_total}
+use Rattle.fx_totals.specs.declared.target_range.TargetRange.{TargetRange}
 use Rattle.fx_error.specs.PartsOf.{ArePartsOf}
 use Rattle.fx_error.specs.declared.parts.Parts.{Parts}
 use Rattle.fx_block.specs.Failure.{Failure, first_of, out_of_range, range_failure}

@@ -7,7 +7,7 @@ use Rattle.fx_files.specs.Filter.{Filter}
 use Rattle.fx_code.specs.Code.{Code}
 use Rattle.fx_cert.specs.Certificate.{Certificate, output_length}
 use Rattle.fx_sweep.specs.Target.{start_of}
-use Rattle.fx_sweep.specs.Totals.{input_part, rest_part, rounding, width_part}
+use Rattle.fx_totals.specs.Totals.{input_part, rest_part, rounding, width_part}
 use Rattle.fx_error.specs.declared.parts.Parts.{Parts}
 use Rattle.fx_block.specs.Failure.{Failure, first_failure, form_failure, range_failure}
 use Rattle.fx_block.specs.Formats.{bound_of}

@@ -7,11 +7,11 @@ use Rattle.fx_net.specs.Net.{Net}
 use Rattle.fx_code.specs.Code.{Code}
 use Rattle.fx_code.specs.Joint.{joint_net}
 use Rattle.fx_cert.specs.Certificate.{Certificate, output_length, row_length}
-use Rattle.fx_sweep.specs.Filled.{Filled}
-use Rattle.fx_sweep.specs.Kept.{Kept}
 use Rattle.fx_sweep.specs.Swept.{whole_in}
 use Rattle.fx_sweep.specs.declared.target.Target.{Target}
 use Rattle.fx_sweep.specs.declared.target.Target.TheVariants.{Row}
+use Rattle.fx_totals.specs.Filled.{Filled}
+use Rattle.fx_totals.specs.Kept.{Kept}
 use Rattle.fx_block.specs.Passes.{pair_of, pair_total, row_count, row_total}
 
 abbrev pub target_count : Filter → Code → ℕ

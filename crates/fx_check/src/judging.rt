@@ -26,7 +26,8 @@ use fx_error::{Parts, split};
 use fx_files::{Filter, filters_fit};
 use fx_net::{LARGEST_NET, Net, other_rows_stay};
 use fx_nums::OPERAND_BITS;
-use fx_sweep::{Sweep, Totals, empty_rows_change_nothing, totals_fit};
+use fx_sweep::Sweep;
+use fx_totals::{Totals, empty_rows_change_nothing, totals_fit};
 use std::alloc::{AllocError, Global};
 
 /// What it takes to judge programs and filters of together at most N rows. N is 1 to `LARGEST_NET`.

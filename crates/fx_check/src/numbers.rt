@@ -5,9 +5,9 @@ ghost use Rattle.fx_block.specs.Formats.{bound_of, input_at, output_at};
 ghost use Rattle.fx_block.specs.Passes.{bound_at, error_at};
 ghost use Rattle.fx_code.specs.Code.{row_at};
 ghost use Rattle.fx_eqs.specs.declared.limits.TheConstants.{PORTS};
-ghost use Rattle.fx_sweep.specs.Kept.{AreBounds, IsUpTo, bound_in, greatest_bound};
 ghost use Rattle.fx_sweep.specs.Swept.{whole_in};
 ghost use Rattle.fx_sweep.specs.Target.{one};
+ghost use Rattle.fx_totals.specs.Kept.{AreBounds, IsUpTo, bound_in, greatest_bound};
 
 use crate::form::{input, input_count, output};
 use fx_cert::Cert;

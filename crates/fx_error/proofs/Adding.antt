@@ -3,7 +3,7 @@ use Rattle.std.proofs.Common.{◌≡◌, ℕ, suc, ◌+◌, ◌*◌, ap₂, ◌�
 use Rattle.std.proofs.Math.IntN.{ℤ, ◌+ℤ◌}
 use Rattle.std.proofs.lemmas.Int.{ints}
 use Rattle.fx_math.specs.Sums.{total}
-use Rattle.fx_sweep.specs.Kept.{IsUpTo}
+use Rattle.fx_totals.specs.Kept.{IsUpTo}
 
 pub one_more_fits : (i most : ℕ) (a p r : ℤ) → r ≡ a +ℤ p → IsUpTo (i * most) a → IsUpTo most p →
     IsUpTo ((i + 1) * most) r

@@ -8,9 +8,9 @@ use Rattle.fx_eqs.specs.declared.limits.TheConstants.{PORTS}
 use Rattle.fx_nums.specs.Interval.{Interval}
 use Rattle.fx_net.specs.Net.{Net}
 use Rattle.fx_sweep.specs.Gains.{widths, input_gain, rest}
-use Rattle.fx_sweep.specs.Totals.{input_part, rest_part, rounding, width_part}
-use Rattle.fx_sweep.specs.Filled.{HoldsTarget}
-use Rattle.fx_sweep.specs.Kept.{Kept, kept_gain, kept_rest, kept_rounding, kept_total, kept_width}
+use Rattle.fx_totals.specs.Totals.{input_part, rest_part, rounding, width_part}
+use Rattle.fx_totals.specs.Filled.{HoldsTarget}
+use Rattle.fx_totals.specs.Kept.{Kept, kept_gain, kept_rest, kept_rounding, kept_total, kept_width}
 use Rattle.fx_error.specs.PartsOf.{ArePartsOf}
 use Rattle.fx_error.specs.declared.parts.Parts.{Parts}
 

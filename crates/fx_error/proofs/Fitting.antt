@@ -2,7 +2,7 @@
 use Rattle.std.proofs.Common.{◌≡◌, ℕ, ◌*◌, ◌^◌, ◌≤◌, arith}
 use Rattle.std.proofs.Math.IntN.{ℤ, ◌+ℤ◌}
 use Rattle.std.proofs.lemmas.Int.{ints}
-use Rattle.fx_sweep.specs.Kept.{IsUpTo}
+use Rattle.fx_totals.specs.Kept.{IsUpTo}
 use Rattle.fx_error.specs.PartsOf.{PartsFit}
 
 pub parts_fit : (n : ℕ) (rounding inputs widths difference rest : ℤ) → n ≤ 64 → IsUpTo (2 ^ 95) rounding →

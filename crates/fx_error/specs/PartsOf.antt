@@ -2,8 +2,8 @@
 use Rattle.std.specs.Prelude.{◌≡◌, ℕ, ◌-◌, ◌^◌, ℤ, ◌+ℤ◌}
 use Rattle.fx_nums.specs.Interval.{Interval}
 use Rattle.fx_net.specs.Net.{Net}
-use Rattle.fx_sweep.specs.Kept.{IsUpTo}
-use Rattle.fx_sweep.specs.Totals.{input_part, rest_part, rounding, target_total, width_part}
+use Rattle.fx_totals.specs.Kept.{IsUpTo}
+use Rattle.fx_totals.specs.Totals.{input_part, rest_part, rounding, target_total, width_part}
 use Rattle.fx_error.specs.declared.parts.Parts.{Parts}
 
 -- What the roundings add; what the inputs add and what was cut off the weights; and what lies before the block. The

@@ -4,8 +4,8 @@ ghost use Rattle.fx_eqs.specs.declared.limits.TheConstants.{PORTS};
 ghost use Rattle.fx_net.specs.Net.{Net as AnyNet};
 ghost use Rattle.fx_sweep.specs.Target.{start_of};
 ghost use Rattle.fx_sweep.specs.declared.target.Target.{Target as AnyTarget};
-ghost use Rattle.fx_sweep.specs.Filled.{Filled, length_in, target_in};
-ghost use Rattle.fx_sweep.specs.Kept.{
+ghost use Rattle.fx_totals.specs.Filled.{Filled, length_in, target_in};
+ghost use Rattle.fx_totals.specs.Kept.{
   AreBounds,
   IsUpTo,
   bound_in,
@@ -20,7 +20,7 @@ ghost use Rattle.fx_sweep.specs.Kept.{
 ghost use Rattle.fx_error.specs.PartsOf.{ArePartsOf, PartsFit};
 
 use fx_eqs::PORTS;
-use fx_sweep::{Totals, totals_fit};
+use fx_totals::{Totals, totals_fit};
 
 /// The parts of the total of a target, times 2^64. They add up to the total.
 #[derive(Clone, Copy, Debug, PartialEq, Eq)]

@@ -20,7 +20,7 @@ use Rattle.fx_make.specs.declared.fail.Fail.TheVariants as fail
 use Rattle.fx_make.specs.declared.fail.Failed.{Failed}
 use Rattle.fx_make.specs.declared.refusal.StructureFault.TheVariants as fault
 use Rattle.fx_nums.specs.Interval.{Interval}
-use Rattle.fx_sweep.specs.declared.target.TargetRange.{TargetRange}
+use Rattle.fx_totals.specs.declared.target_range.TargetRange.{TargetRange}
 use Rattle.fx_lines.specs.Laws.{IsLine}
 use Rattle.fx_lines.specs.Verdict.{error_lines, place_text, up_part}
 use Rattle.fx_lines.specs.declared.decimals.TheConstants.{PLACES}

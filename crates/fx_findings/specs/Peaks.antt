@@ -5,7 +5,7 @@ use Rattle.std.specs.List.{flat_map}
 use Rattle.fx_math.specs.Sums.{joined}
 use Rattle.fx_decimal.specs.Printed.{down_text}
 use Rattle.fx_nums.specs.Interval.{Interval}
-use Rattle.fx_sweep.specs.declared.target.TargetRange.{TargetRange}
+use Rattle.fx_totals.specs.declared.target_range.TargetRange.{TargetRange}
 use Rattle.fx_block.specs.declared.least.Least.{Least}
 use Rattle.fx_block.specs.declared.least.Least.TheVariants.{Rest, Over, Slow}
 use Rattle.fx_block.specs.declared.least.LengthWhy.{LengthWhy}

@@ -21,7 +21,7 @@ use fx_files::Filter;
 use fx_gain::{LengthFail, Peaks};
 use fx_lines::{PLACES, put_compared, put_field, put_target, put_up, put_word};
 use fx_nums::Iv;
-use fx_sweep::TargetRange;
+use fx_totals::TargetRange;
 use std::alloc::{AllocError, Global};
 
 // How far an input can drive an output.

@@ -5,7 +5,8 @@ use fx_files::{Form, Structure, read_filter};
 use fx_gain::{LengthFail, peak};
 use fx_make::{Fail, Failed, StructureFault};
 use fx_nums::Iv;
-use fx_sweep::{Place, RangeAt, TargetRange};
+use fx_sweep::{Place, RangeAt};
+use fx_totals::TargetRange;
 use std::test::Fail as TestFail;
 
 // y(k) = u(k) - 0.5 u(k-1), on words up to 100.

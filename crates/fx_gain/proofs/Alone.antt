@@ -10,7 +10,7 @@ use Rattle.std.proofs.lemmas.List.{get_or_append_left, get_or_at, get_or_past, g
 use Rattle.fx_math.specs.Sums.{joined}
 use Rattle.fx_files.specs.Filter.{Filter}
 use Rattle.fx_code.specs.Inputs.{word_at}
-use Rattle.fx_sweep.specs.AllTime.{WordsWithin}
+use Rattle.fx_totals.specs.AllTime.{WordsWithin}
 use Rattle.fx_block.specs.Admissible.{IsAdmissible, IsAdmissibleMoment}
 use Rattle.fx_block.specs.Formats.{bound_of, input_at}
 use Rattle.fx_gain.specs.Lengths.{bound_alone}

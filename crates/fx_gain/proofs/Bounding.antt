@@ -11,7 +11,7 @@ use mathlib.Core.Path.{fun_ext}
 use Rattle.fx_files.specs.Filter.{Filter}
 use Rattle.fx_msb.specs.declared.widths.TheConstants.{GREATEST_BOUND}
 use Rattle.fx_net.specs.Net.{Net}
-use Rattle.fx_sweep.specs.Kept.{bound_in}
+use Rattle.fx_totals.specs.Kept.{bound_in}
 use Rattle.fx_block.specs.Formats.{bound_of}
 use Rattle.fx_block.specs.Raising.{Raises, ended, ended_by, first_row, least_by_raises, raise, raised_bound, raises_by}
 use Rattle.fx_block.specs.Raising.Raises.{Over, Slow}

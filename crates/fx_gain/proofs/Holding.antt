@@ -36,12 +36,12 @@ use Rattle.fx_net.specs.Running.{EachNetHasARun, run_of}
 use Rattle.fx_net.proofs.Blocked.{to_den}
 use Rattle.fx_net.proofs.Carried.{extend}
 use Rattle.fx_net.proofs.Positions.{row_inside as place_inside}
-use Rattle.fx_sweep.specs.AllTime.{BoundsHoldForAllTime, BoundsServe, BoundsSuffice, WordsWithin}
-use Rattle.fx_sweep.specs.Bounds.{least_sum, slack, target_value}
 use Rattle.fx_sweep.specs.Gains.{row_gain}
-use Rattle.fx_sweep.specs.Laws.{RowTargets, TargetsLieBetween}
-use Rattle.fx_sweep.specs.Totals.{rounding, width_part}
 use Rattle.fx_sweep.specs.declared.target.Target.TheVariants.{Row}
+use Rattle.fx_totals.specs.AllTime.{BoundsHoldForAllTime, BoundsServe, BoundsSuffice, WordsWithin}
+use Rattle.fx_totals.specs.Bounds.{least_sum, slack, target_value}
+use Rattle.fx_totals.specs.Laws.{RowTargets, TargetsLieBetween}
+use Rattle.fx_totals.specs.Totals.{rounding, width_part}
 use Rattle.fx_block.specs.Admissible.{IsAdmissibleMoment}
 use Rattle.fx_block.specs.Formats.{bound_of, input_at, output_at}
 use Rattle.fx_block.specs.Laws.{TotalsServeForAllTime}

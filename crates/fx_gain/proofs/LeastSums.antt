@@ -15,9 +15,9 @@ use Rattle.fx_files.specs.Filter.{Filter}
 use Rattle.fx_code.specs.Inputs.{word_at}
 use Rattle.fx_nums.specs.Interval.{Interval}
 use Rattle.fx_net.specs.Net.{Net}
-use Rattle.fx_sweep.specs.Bounds.{least_product, least_sum}
 use Rattle.fx_sweep.specs.Weights.{inputs}
 use Rattle.fx_sweep.proofs.Ordered.{inputs_ordered}
+use Rattle.fx_totals.specs.Bounds.{least_product, least_sum}
 use Rattle.fx_block.specs.Formats.{bound_of}
 use Rattle.fx_gain.specs.Enclosing.{least_magnitude, output_start, weight, worst_word, worst_words}
 use Rattle.fx_gain.specs.Peak.{alone}

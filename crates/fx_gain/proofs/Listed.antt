@@ -5,14 +5,14 @@ use Rattle.std.specs.Option.{option_map, option_or}
 use Rattle.std.proofs.lemmas.Bool.{cases_lt}
 use Rattle.std.proofs.lemmas.List.{get_or-replicate, length-replicate}
 use Rattle.fx_net.specs.Net.{Net}
-use Rattle.fx_sweep.specs.Filled.{AreLeading, CanBeFilled, first_target_range, length_in}
-use Rattle.fx_sweep.specs.Filled.{target_in}
 use Rattle.fx_sweep.specs.Range.{first_range_in}
 use Rattle.fx_sweep.specs.Target.{TargetFits, start_of}
 use Rattle.fx_sweep.specs.declared.limits.TheConstants.{GREATEST_LENGTH}
 use Rattle.fx_sweep.specs.declared.target.RangeAt.{RangeAt}
 use Rattle.fx_sweep.specs.declared.target.Target.{Target}
 use Rattle.fx_sweep.specs.declared.target.Target.TheVariants.{Row}
+use Rattle.fx_totals.specs.Filled.{AreLeading, CanBeFilled, first_target_range, length_in}
+use Rattle.fx_totals.specs.Filled.{target_in}
 use Rattle.fx_gain.specs.Lengths.{first_of, row_range}
 use Rattle.fx_gain.specs.Rows.{row_targets}
 use Rattle.fx_gain.proofs.Alone.{length_singles, single_at}

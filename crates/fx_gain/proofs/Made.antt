@@ -19,13 +19,13 @@ use Rattle.fx_files.specs.Fits.{FilterFits}
 use Rattle.fx_net.specs.Net.{Net}
 use Rattle.fx_nums.specs.Interval.{Interval, magnitude}
 use Rattle.fx_nums.specs.declared.limits.TheConstants.{OPERAND_BITS, SCALE_BITS}
-use Rattle.fx_sweep.specs.Filled.{HoldsTarget, length_in, target_in}
 use Rattle.fx_sweep.specs.Gains.{widths}
-use Rattle.fx_sweep.specs.Kept.{AreBounds, Kept, bound_in, greatest_bound, kept_width}
 use Rattle.fx_sweep.specs.Swept.{interval_in, whole_in}
 use Rattle.fx_sweep.specs.Target.{start_of}
-use Rattle.fx_sweep.specs.Totals.{target_total, width_part}
 use Rattle.fx_sweep.specs.Weights.{inputs}
+use Rattle.fx_totals.specs.Filled.{HoldsTarget, length_in, target_in}
+use Rattle.fx_totals.specs.Kept.{AreBounds, Kept, bound_in, greatest_bound, kept_width}
+use Rattle.fx_totals.specs.Totals.{target_total, width_part}
 use Rattle.fx_block.specs.Formats.{bound_of, output_at}
 use Rattle.fx_block.specs.Raising.{RestIsLeast}
 use Rattle.fx_gain.specs.Enclosing.{EndsFit, high_end, least_magnitude, low_end, output_row, output_start}

@@ -4,7 +4,7 @@ use Rattle.std.proofs.Math.IntN.{ℤ, ◌+ℤ◌}
 use Rattle.std.proofs.lemmas.Bool.{cases_lt}
 use Rattle.std.proofs.lemmas.Int.{ints}
 use Rattle.fx_math.specs.Sums.{sum_below}
-use Rattle.fx_sweep.specs.Kept.{IsUpTo}
+use Rattle.fx_totals.specs.Kept.{IsUpTo}
 
 pub sum_grows : (m n : ℕ) (f : ℕ → ℕ) → m ≤ n → sum_below m f ≤ sum_below n f
 sum_grows m zero f l = subst (λ k. sum_below k f ≤ 0) (let e : 0 ≡ m = omega (arith, l) in e) (omega arith)

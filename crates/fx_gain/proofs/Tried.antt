@@ -7,11 +7,11 @@ use Rattle.std.proofs.lemmas.Bool.{cases_lt}
 use Rattle.fx_files.specs.Filter.{Filter}
 use Rattle.fx_net.specs.Net.{Net}
 use Rattle.fx_nums.specs.Interval.{Interval}
-use Rattle.fx_sweep.specs.Filled.{Filled, length_in}
-use Rattle.fx_sweep.specs.Kept.{Kept}
 use Rattle.fx_sweep.specs.Range.{first_range_in, range_at}
 use Rattle.fx_sweep.specs.declared.target.RangeAt.{RangeAt}
-use Rattle.fx_sweep.specs.declared.target.TargetRange.{TargetRange}
+use Rattle.fx_totals.specs.Filled.{Filled, length_in}
+use Rattle.fx_totals.specs.Kept.{Kept}
+use Rattle.fx_totals.specs.declared.target_range.TargetRange.{TargetRange}
 use Rattle.fx_block.specs.Raising.{Raises}
 use Rattle.fx_block.specs.Raising.Raises.{Rest, Over, Slow}
 use Rattle.fx_block.specs.Told.{Tells}

@@ -7,9 +7,9 @@ use Rattle.fx_eqs.specs.Expanded.{row_place}
 use Rattle.fx_files.specs.Filter.{Filter}
 use Rattle.fx_net.specs.Net.{Net}
 use Rattle.fx_sweep.specs.Target.{start_of}
-use Rattle.fx_sweep.specs.Totals.{target_total, width_part}
 use Rattle.fx_sweep.specs.Weights.{inputs}
 use Rattle.fx_sweep.specs.declared.target.Target.TheVariants.{Row}
+use Rattle.fx_totals.specs.Totals.{target_total, width_part}
 use Rattle.fx_block.specs.Formats.{bound_of, output_at}
 use Rattle.fx_block.specs.Raising.{Raises}
 use Rattle.fx_block.specs.Raising.Raises.{Rest, Over, Slow}

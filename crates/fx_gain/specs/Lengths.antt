@@ -11,7 +11,7 @@ use Rattle.fx_sweep.specs.Range.{first_range_in}
 use Rattle.fx_sweep.specs.Target.{start_of}
 use Rattle.fx_sweep.specs.declared.target.RangeAt.{RangeAt}
 use Rattle.fx_sweep.specs.declared.target.Target.TheVariants.{Row}
-use Rattle.fx_sweep.specs.declared.target.TargetRange.{TargetRange}
+use Rattle.fx_totals.specs.declared.target_range.TargetRange.{TargetRange}
 use Rattle.fx_block.specs.Formats.{bound_of}
 use Rattle.fx_block.specs.Raising.{Raises, least_by_raises}
 use Rattle.fx_block.specs.Raising.Raises.{Rest, Over, Slow}

@@ -11,7 +11,7 @@ use Rattle.fx_gain.specs.Enclosing.{enclosure, worst_words}
 use Rattle.fx_gain.specs.Lengths.{first_serving, length_failure}
 use Rattle.fx_gain.specs.Peak.{EnclosesPeak}
 use Rattle.fx_gain.specs.Rows.{IsBlock}
-use Rattle.fx_sweep.specs.Kept.{Kept}
+use Rattle.fx_totals.specs.Kept.{Kept}
 use Rattle.fx_gain.specs.declared.fails.LengthFail.{LengthFail}
 
 -- the length of the block, the counts of outputs and inputs, an interval for each output and input, and the words of

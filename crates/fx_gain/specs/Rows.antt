@@ -4,11 +4,11 @@ use Rattle.fx_math.specs.Sums.{joined}
 use Rattle.fx_files.specs.Filter.{Filter}
 use Rattle.fx_msb.specs.declared.widths.TheConstants.{GREATEST_BOUND}
 use Rattle.fx_net.specs.Net.{Net}
-use Rattle.fx_sweep.specs.Filled.{Filled}
-use Rattle.fx_sweep.specs.Kept.{AreBounds, Kept}
 use Rattle.fx_sweep.specs.declared.limits.TheConstants.{GREATEST_LENGTH}
 use Rattle.fx_sweep.specs.declared.target.Target.{Target}
 use Rattle.fx_sweep.specs.declared.target.Target.TheVariants.{Row}
+use Rattle.fx_totals.specs.Filled.{Filled}
+use Rattle.fx_totals.specs.Kept.{AreBounds, Kept}
 use Rattle.fx_gain.specs.Lengths.{length_failure, original_count}
 
 -- n caps, each the greatest bound there is, and room for n bounds

@@ -4,7 +4,7 @@ ghost use Rattle.std.specs.Prelude.{◌≡◌, ◌^◌, ◌<◌, IfOk, length, u
 ghost use Rattle.fx_eqs.specs.Expanded.{row_place};
 ghost use Rattle.fx_net.specs.Tables.{net_of};
 ghost use Rattle.fx_nums.specs.declared.limits.TheConstants.{INTERVAL_BITS};
-ghost use Rattle.fx_sweep.specs.Kept.{AreBounds, bound_in};
+ghost use Rattle.fx_totals.specs.Kept.{AreBounds, bound_in};
 ghost use Rattle.fx_gain.specs.Enclosing.{
   EndsFit,
   enclosure,
@@ -28,7 +28,8 @@ use fx_eqs::{Eqs, Source, common_divides_each, systems_fit};
 use fx_files::{Filter, filters_fit};
 use fx_net::{Net, nets_fit};
 use fx_nums::Iv;
-use fx_sweep::{Sweep, Totals, totals_fit};
+use fx_sweep::Sweep;
+use fx_totals::{Totals, totals_fit};
 use std::alloc::{AllocError, Global};
 
 // The first row of the equations in their net: so many rows before it hold inputs.

@@ -3,9 +3,9 @@
 ghost use Rattle.std.specs.Prelude.{◌≡◌, ◌<◌, ◌≤◌, ℕ, List, length, pos, replicate};
 ghost use Rattle.fx_eqs.specs.declared.limits.TheConstants.{PORTS};
 ghost use Rattle.fx_net.specs.Net.{Net as AnyNet};
-ghost use Rattle.fx_sweep.specs.Filled.{Filled, length_in};
-ghost use Rattle.fx_sweep.specs.Kept.{AreBounds, IsUpTo, bound_in, greatest_bound};
 ghost use Rattle.fx_sweep.specs.declared.target.Target.{Target as AnyTarget};
+ghost use Rattle.fx_totals.specs.Filled.{Filled, length_in};
+ghost use Rattle.fx_totals.specs.Kept.{AreBounds, IsUpTo, bound_in, greatest_bound};
 ghost use Rattle.fx_block.specs.Formats.{bound_of};
 ghost use Rattle.fx_block.specs.Told.{Tells};
 ghost use Rattle.fx_gain.specs.Lengths.{bound_alone, raises_up};
@@ -14,7 +14,7 @@ use fx_block::{Least, least_bounds};
 use fx_eqs::PORTS;
 use fx_files::{Filter, filters_fit};
 use fx_msb::GREATEST_BOUND;
-use fx_sweep::Totals;
+use fx_totals::Totals;
 use std::alloc::{AllocError, Global};
 use std::marker::Model;
 

@@ -3,7 +3,7 @@
 ghost use Rattle.std.specs.Prelude.{◌≡◌, ◌≤◌, ℕ, ◌+◌, ◌*◌, ◌^◌, ◌<◌, length, pos, ◌+ℤ◌, ◌-ℤ◌, ◌*ℤ◌, ◌≤ℤ◌, unsigned_abs};
 ghost use Rattle.fx_math.specs.Sums.{total};
 ghost use Rattle.fx_nums.specs.declared.limits.TheConstants.{INTERVAL_BITS};
-ghost use Rattle.fx_sweep.specs.Kept.{
+ghost use Rattle.fx_totals.specs.Kept.{
   AreBounds,
   IsUpTo,
   bound_in,
@@ -13,7 +13,7 @@ ghost use Rattle.fx_sweep.specs.Kept.{
 };
 
 use fx_nums::Iv;
-use fx_sweep::Totals;
+use fx_totals::Totals;
 
 // A number times a bound.
 fn product(number: i128, bound: i64) -> i128

@@ -17,7 +17,8 @@ use fx_eqs::{NET_ROWS, PORTS, systems_fit};
 use fx_files::{Filter, filters_fit};
 use fx_mat::IvMat;
 use fx_net::{Net, nets_fit, other_rows_stay};
-use fx_sweep::{Sweep, Totals};
+use fx_sweep::Sweep;
+use fx_totals::Totals;
 use std::alloc::{AllocError, Global};
 
 // The net of the filter's own equations.

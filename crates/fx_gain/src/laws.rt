@@ -7,7 +7,7 @@ use fx_net::{
     denominators_stay, each_net_has_a_run, expanded_rows_have_the_exact_values, other_rows_stay,
     rows_stand,
 };
-use fx_sweep::{bounds_hold_for_all_time, targets_have_these_values, targets_lie_between};
+use fx_totals::{bounds_hold_for_all_time, targets_have_these_values, targets_lie_between};
 
 /// A law with nothing to run: over a length that does not fail, the ends enclose how far each output goes on words of
 /// each input alone, at all moments, and the words reach the low end.

@@ -2,8 +2,8 @@
 
 ghost use Rattle.std.specs.Prelude.{◌≡◌, ◌<◌, ◌≤◌, IfOk, None, length, replicate};
 ghost use Rattle.fx_net.specs.Tables.{net_of};
-ghost use Rattle.fx_sweep.specs.Filled.{Filled};
 ghost use Rattle.fx_sweep.specs.declared.limits.TheConstants.{GREATEST_LENGTH};
+ghost use Rattle.fx_totals.specs.Filled.{Filled};
 ghost use Rattle.fx_gain.specs.Lengths.{bounds_failure, length_failure, original_count};
 ghost use Rattle.fx_gain.specs.Rows.{row_targets};
 
@@ -12,7 +12,8 @@ use crate::fails::LengthFail;
 use fx_block::{Least, LengthWhy};
 use fx_files::Filter;
 use fx_net::Net;
-use fx_sweep::{Sweep, Target, Totals};
+use fx_sweep::{Sweep, Target};
+use fx_totals::Totals;
 use std::alloc::{AllocError, Global};
 
 // The first rows as targets.

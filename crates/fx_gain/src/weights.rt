@@ -6,12 +6,12 @@ ghost use Rattle.fx_math.specs.Sums.{joined, sum_below, total};
 ghost use Rattle.fx_net.specs.Tables.{net_of};
 ghost use Rattle.fx_nums.specs.Interval.{magnitude};
 ghost use Rattle.fx_nums.specs.declared.limits.TheConstants.{OPERAND_BITS};
-ghost use Rattle.fx_sweep.specs.Kept.{IsUpTo, greatest_bound};
 ghost use Rattle.fx_sweep.specs.Range.{first_range_in};
 ghost use Rattle.fx_sweep.specs.Swept.{input_at, input_gain_at, interval_in};
 ghost use Rattle.fx_sweep.specs.Target.{start_of};
 ghost use Rattle.fx_sweep.specs.declared.limits.TheConstants.{GREATEST_LENGTH};
 ghost use Rattle.fx_sweep.specs.declared.target.Target.TheVariants.{Row};
+ghost use Rattle.fx_totals.specs.Kept.{IsUpTo, greatest_bound};
 ghost use Rattle.fx_gain.specs.Enclosing.{least_magnitude, worst_word};
 ghost use Rattle.fx_gain.specs.Weights.{AreWeights};
 

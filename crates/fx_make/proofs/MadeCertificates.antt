@@ -16,10 +16,10 @@ use Rattle.fx_files.specs.Fits.{FilterFits, OutputFits}
 use Rattle.fx_files.specs.declared.formats.OutputFormat.{OutputFormat}
 use Rattle.fx_cert.specs.Certificate.{Certificate, CertificateFits, IsError}
 use Rattle.fx_cert.specs.declared.limits.TheConstants.{LEAST_LENGTH, GREATEST_LENGTH, GREATEST_ROWS, GREATEST_ERROR}
-use Rattle.fx_sweep.specs.Growth.{NoTotalIsNegative}
-use Rattle.fx_sweep.specs.Kept.{AreBounds, bound_in}
 use Rattle.fx_sweep.specs.Swept.{whole_in}
 use Rattle.fx_sweep.specs.Target.{start_of}
+use Rattle.fx_totals.specs.Growth.{NoTotalIsNegative}
+use Rattle.fx_totals.specs.Kept.{AreBounds, bound_in}
 use Rattle.fx_block.specs.Candidate.{cap_of, candidate_count, candidate_net, candidate_pair, candidate_total}
 use Rattle.fx_block.specs.Formats.{bound_of, output_at}
 use Rattle.fx_block.specs.Made.{IsCertificateOf}

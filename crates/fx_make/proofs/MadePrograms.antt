@@ -17,7 +17,7 @@ use Rattle.fx_files.specs.Fits.{FilterFits, InputFits, OutputFits}
 use Rattle.fx_files.specs.declared.formats.InputFormat.{InputFormat}
 use Rattle.fx_files.specs.declared.formats.OutputFormat.{OutputFormat}
 use Rattle.fx_code.specs.Code.{Code}
-use Rattle.fx_sweep.specs.Kept.{AreBounds, bound_in}
+use Rattle.fx_totals.specs.Kept.{AreBounds, bound_in}
 use Rattle.fx_code.specs.NetRows.{bare_at}
 use Rattle.fx_block.specs.Candidate.{cap_of, inner_count, most_width}
 use Rattle.fx_block.specs.Formats.{output_at}

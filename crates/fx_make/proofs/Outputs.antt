@@ -12,9 +12,9 @@ use Rattle.fx_files.specs.Fits.{FilterFits, OutputFits}
 use Rattle.fx_files.specs.declared.formats.OutputFormat.{OutputFormat}
 use Rattle.fx_net.proofs.Positions.{row_inside}
 use Rattle.fx_code.specs.Code.{BareRow}
-use Rattle.fx_sweep.specs.Filled.{target_in}
 use Rattle.fx_sweep.specs.Target.{TargetFits}
 use Rattle.fx_sweep.specs.declared.target.Target.TheVariants.{Row}
+use Rattle.fx_totals.specs.Filled.{target_in}
 use Rattle.fx_block.specs.Candidate.{candidate_count, candidate_pair, inner_count}
 use Rattle.fx_block.specs.Formats.{output_at, shift_of}
 use Rattle.fx_make.specs.Targets.{target_at, target_count, targets_of}

@@ -28,7 +28,7 @@ use Rattle.fx_code.specs.declared.term.CodeTerm.{CodeTerm}
 use Rattle.fx_code.specs.declared.term.Read.{Read}
 use Rattle.fx_code.specs.declared.term.Read.TheVariants.{Now as NowRow, Old as OldRow, In as InPort}
 use Rattle.fx_files.specs.Filter.{Filter}
-use Rattle.fx_sweep.specs.Padding.{IsPadded}
+use Rattle.fx_totals.specs.Padding.{IsPadded}
 use Rattle.fx_block.specs.Candidate.{candidate_count, candidate_net}
 use Rattle.fx_quant.specs.Design.{DesignFits, Quantised}
 use Rattle.fx_make.specs.Targets.{padded_net}

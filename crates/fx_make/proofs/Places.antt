@@ -7,8 +7,8 @@ use Rattle.std.proofs.lemmas.Bool.{cases_eq, cases_lt}
 use Rattle.std.proofs.lemmas.List.{get_or_past, get_or_append_left, get_or-append-add, get_or-replicate}
 use Rattle.std.proofs.lemmas.List.{length-append, length-replicate, take_more_set}
 use Rattle.fx_math.specs.Sums.{joined}
-use Rattle.fx_sweep.specs.Kept.{AreUpTo, IsUpTo}
 use Rattle.fx_sweep.specs.Swept.{whole_in}
+use Rattle.fx_totals.specs.Kept.{AreUpTo, IsUpTo}
 
 -- ---- the list f 0, f 1, .., f (n - 1)
 

@@ -9,7 +9,7 @@ use Rattle.fx_math.specs.Faults.{◌>>=◌}
 use Rattle.fx_math.specs.Sums.{joined}
 use Rattle.fx_files.specs.Filter.{Filter}
 use Rattle.fx_sif.specs.Implicit.{Implicit}
-use Rattle.fx_sweep.specs.Filled.{length_in}
+use Rattle.fx_totals.specs.Filled.{length_in}
 use Rattle.fx_block.specs.Candidate.{Trial, trial}
 use Rattle.fx_block.specs.Candidate.Trial.{Passed, OutOfRange, OverCap, TooSlow, AboveTarget}
 use Rattle.fx_block.specs.Raising.{first_row}

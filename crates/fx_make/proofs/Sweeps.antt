@@ -17,18 +17,18 @@ use Rattle.fx_keys.specs.declared.key.Key.TheVariants as key
 use Rattle.fx_files.specs.Filter.{Filter}
 use Rattle.fx_files.specs.Fits.{FilterFits}
 use Rattle.fx_net.specs.Rows.{put_rows}
-use Rattle.fx_sweep.specs.Filled.{Filled, first_target_range, length_in, target_in}
-use Rattle.fx_sweep.specs.Kept.{Kept, kept_total}
-use Rattle.fx_sweep.specs.Padding.{EmptyRowsChangeNothing, HasSameNumbers}
 use Rattle.fx_sweep.specs.Range.{first_range_in}
-use Rattle.fx_sweep.specs.Series.{CanBeSeries}
 use Rattle.fx_sweep.specs.Target.{TargetFits, start_of}
-use Rattle.fx_sweep.specs.Totals.{target_total}
 use Rattle.fx_sweep.specs.declared.target.RangeAt.{RangeAt}
 use Rattle.fx_sweep.specs.declared.target.Target.{Target}
 use Rattle.fx_sweep.specs.declared.target.Target.TheVariants.{Row, Pair}
-use Rattle.fx_sweep.specs.declared.target.TargetRange.{TargetRange}
-use Rattle.fx_sweep.proofs.Kept.{held_total}
+use Rattle.fx_totals.specs.Filled.{Filled, first_target_range, length_in, target_in}
+use Rattle.fx_totals.specs.Kept.{Kept, kept_total}
+use Rattle.fx_totals.specs.Padding.{EmptyRowsChangeNothing, HasSameNumbers}
+use Rattle.fx_totals.specs.Series.{CanBeSeries}
+use Rattle.fx_totals.specs.Totals.{target_total}
+use Rattle.fx_totals.specs.declared.target_range.TargetRange.{TargetRange}
+use Rattle.fx_totals.proofs.Kept.{held_total}
 use Rattle.fx_block.specs.Candidate.{candidate_count, candidate_net, candidate_pair, candidate_range}
 use Rattle.fx_block.specs.Candidate.{candidate_total, cap_of, first_target}
 use Rattle.fx_block.specs.Formats.{bound_of}

@@ -10,7 +10,7 @@ use Rattle.std.proofs.lemmas.Int.{ints}
 use Rattle.fx_files.specs.Filter.{Filter}
 use Rattle.fx_code.specs.Code.{BareRow}
 use Rattle.fx_sweep.specs.declared.target.RangeAt.{RangeAt}
-use Rattle.fx_sweep.specs.declared.target.TargetRange.{TargetRange}
+use Rattle.fx_totals.specs.declared.target_range.TargetRange.{TargetRange}
 use Rattle.fx_block.specs.Candidate.{candidate_range, candidate_total, first_above, trial, with_bounds, with_errors}
 use Rattle.fx_block.specs.Candidate.{with_range}
 use Rattle.fx_block.specs.Candidate.Trial.{Passed}

@@ -3,8 +3,8 @@ use Rattle.std.specs.Prelude.{◌≡◌, ℕ, ◌+◌, ◌<◌, nat_lt, cond, �
 use Rattle.std.specs.Prelude.{None, is_none}
 use Rattle.fx_files.specs.Filter.{Filter}
 use Rattle.fx_code.specs.Code.{BareRow}
-use Rattle.fx_sweep.specs.Filled.{length_in}
-use Rattle.fx_sweep.specs.Kept.{Kept, kept_total}
+use Rattle.fx_totals.specs.Filled.{length_in}
+use Rattle.fx_totals.specs.Kept.{Kept, kept_total}
 use Rattle.fx_block.specs.Candidate.{candidate_count, candidate_net, candidate_total, cap_of, first_above, trial}
 use Rattle.fx_block.specs.Candidate.Trial.{Passed}
 use Rattle.fx_block.specs.Formats.{bound_of, output_at}

@@ -6,7 +6,7 @@ ghost use Rattle.fx_math.specs.Words.{WidthFits};
 ghost use Rattle.fx_block.specs.Candidate.{candidate_count, cap_of, most_width};
 ghost use Rattle.fx_code.specs.NetRows.{bare_at};
 ghost use Rattle.fx_block.specs.Formats.{bound_of, input_at};
-ghost use Rattle.fx_sweep.specs.Kept.{AreBounds, IsUpTo, bound_in, greatest_bound};
+ghost use Rattle.fx_totals.specs.Kept.{AreBounds, IsUpTo, bound_in, greatest_bound};
 ghost use Rattle.fx_make.specs.Designs.{AreRowsOf};
 
 use crate::targets::{inner_count, output};

@@ -1,6 +1,6 @@
 //! Why a candidate does not pass.
 
-use fx_sweep::TargetRange;
+use fx_totals::TargetRange;
 
 /// Why a candidate does not pass. Rows and outputs are numbered from 0; the rows of the code stand before the expanded
 /// rows of the filter.

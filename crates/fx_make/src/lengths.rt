@@ -1,9 +1,9 @@
 //! Whether a candidate's rows pass for a length.
 
 ghost use Rattle.std.specs.Prelude.{◌≡◌, ℕ, ◌-◌, ◌^◌, ◌<◌, ◌≤◌, length, replicate, None};
-ghost use Rattle.fx_sweep.specs.Filled.{Filled};
-ghost use Rattle.fx_sweep.specs.Kept.{AreBounds, IsUpTo, bound_in};
 ghost use Rattle.fx_sweep.specs.Swept.{whole_in};
+ghost use Rattle.fx_totals.specs.Filled.{Filled};
+ghost use Rattle.fx_totals.specs.Kept.{AreBounds, IsUpTo, bound_in};
 ghost use Rattle.fx_block.specs.Candidate.{candidate_count, candidate_range};
 ghost use Rattle.fx_make.specs.Designs.{AreRowsOf};
 ghost use Rattle.fx_make.specs.Lengths.{TellsRaises, TellsTrial, kept_above, kept_pairs, least_fail, raises_of};
@@ -16,7 +16,7 @@ use fx_block::{Least, least_bounds};
 use fx_eqs::systems_fit;
 use fx_files::{Filter, filters_fit};
 use fx_quant::Design;
-use fx_sweep::{Totals, empty_rows_change_nothing};
+use fx_totals::{Totals, empty_rows_change_nothing};
 
 // How raises of the bounds fail, if they do.
 fn bounds_fail(least: Least) -> Option<Fail>

@@ -3,8 +3,8 @@
 ghost use Rattle.std.specs.Prelude.{◌≡◌, ◌<◌, ◌≤◌, ℕ, length, map, All, IfOk};
 ghost use Rattle.fx_math.specs.Words.{WidthFits};
 ghost use Rattle.fx_code.specs.Code.{IsWhole};
-ghost use Rattle.fx_sweep.specs.Kept.{AreBounds, bound_in};
 ghost use Rattle.fx_sweep.specs.Swept.{whole_in};
+ghost use Rattle.fx_totals.specs.Kept.{AreBounds, bound_in};
 ghost use Rattle.fx_block.specs.Candidate.{candidate_count, cap_of};
 ghost use Rattle.fx_block.specs.Made.{IsCertificateOf, IsProgramOf};
 ghost use Rattle.fx_make.specs.Designs.{AreRowsOf, ErrorFits};
@@ -15,7 +15,7 @@ use fx_cert::{Cert, GREATEST_LENGTH, LEAST_LENGTH};
 use fx_code::Program;
 use fx_files::{Filter, InputFormat, OutputFormat, filters_fit};
 use fx_quant::Design;
-use fx_sweep::totals_grow;
+use fx_totals::totals_grow;
 use std::alloc::{AllocError, Global};
 
 // The widths of the words of inputs.

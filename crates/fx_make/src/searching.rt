@@ -6,9 +6,9 @@ ghost use Rattle.fx_eqs.specs.Expanded.{expanded};
 ghost use Rattle.fx_sif.specs.Implicit.{rows};
 ghost use Rattle.fx_code.specs.Code.{IsWhole};
 ghost use Rattle.fx_quant.specs.Quantised.{FractionFits, IsGuard};
-ghost use Rattle.fx_sweep.specs.Filled.{length_in};
-ghost use Rattle.fx_sweep.specs.Kept.{AreBounds, bound_in};
 ghost use Rattle.fx_sweep.specs.Swept.{whole_in};
+ghost use Rattle.fx_totals.specs.Filled.{length_in};
+ghost use Rattle.fx_totals.specs.Kept.{AreBounds, bound_in};
 ghost use Rattle.fx_block.specs.Candidate.{candidate_count};
 ghost use Rattle.fx_block.specs.Passes.{Passes};
 ghost use Rattle.fx_make.specs.Candidates.{candidate_at, of_fraction, of_guard, quantised_rows, tried};
@@ -34,7 +34,8 @@ use fx_files::{Filter, filters_fit};
 use fx_net::{LARGEST_NET, Net};
 use fx_quant::{Design, QuantFault};
 use fx_sif::Sif;
-use fx_sweep::{GREATEST_LENGTH, MOST_LENGTHS, Series, Sweep};
+use fx_sweep::{GREATEST_LENGTH, Sweep};
+use fx_totals::{MOST_LENGTHS, Series};
 use std::alloc::{AllocError, Global};
 
 // What it takes to try candidates of at most N rows with the filter's. N is 1 to `LARGEST_NET`.

@@ -2,10 +2,10 @@
 
 ghost use Rattle.std.specs.Prelude.{◌≡◌, ◌≢◌, ℕ, ◌+◌, ◌*◌, ◌<◌, ◌≤◌, length, None, Some};
 ghost use Rattle.fx_net.specs.Tables.{net_of};
-ghost use Rattle.fx_sweep.specs.Filled.{length_in};
-ghost use Rattle.fx_sweep.specs.Kept.{AreBounds, bound_in};
-ghost use Rattle.fx_sweep.specs.Series.{AreUpToLength, IsSeries};
 ghost use Rattle.fx_sweep.specs.Swept.{whole_in};
+ghost use Rattle.fx_totals.specs.Filled.{length_in};
+ghost use Rattle.fx_totals.specs.Kept.{AreBounds, bound_in};
+ghost use Rattle.fx_totals.specs.Series.{AreUpToLength, IsSeries};
 ghost use Rattle.fx_block.specs.Candidate.{candidate_count};
 ghost use Rattle.fx_make.specs.Designs.{AreRowsOf};
 ghost use Rattle.fx_make.specs.Lengths.{HasPassing, TellsTrial, fail_at, fail_in, first_passing};
@@ -18,7 +18,8 @@ use fx_eqs::systems_fit;
 use fx_files::{Filter, filters_fit};
 use fx_net::Net;
 use fx_quant::Design;
-use fx_sweep::{MOST_LENGTHS, Series, Sweep, empty_rows_change_nothing};
+use fx_sweep::Sweep;
+use fx_totals::{MOST_LENGTHS, Series, empty_rows_change_nothing};
 
 // How the trial of the rows fails for the length at a place, if it does.
 fn try_length<const N: usize>(

@@ -3,21 +3,8 @@ pub mod Sides
 pub mod RowLaw
 pub mod Moments
 pub mod Ordered
-pub mod Inequalities
-pub mod BlockLaw
-pub mod Negated
-pub mod Starts
-pub mod OneSide
-pub mod TwoSides
-pub mod Bounded
-pub mod TotalLaw
-pub mod Padded
 pub mod FirstRanges
-pub mod PaddedNumbers
-pub mod OneRow
-pub mod AllTime
-pub mod Growth
-mod Examples
+pub mod Examples
 pub mod Added
 pub mod Along
 pub mod Ranges
@@ -26,9 +13,6 @@ pub mod Started
 pub mod Turned
 pub mod Sweeping
 pub mod Tested
-pub mod Kept
-pub mod Lines
-pub mod SoFar
 pub mod Repeated
 pub mod OnceMore
 pub mod SweptOn

@@ -1,6 +1,6 @@
 -- The first range in places that are joined.
 use Rattle.std.proofs.Common.{◌≡◌, ℕ, zero, suc, ◌^◌, ◌<◌, ◌⊎◌, List, [], ◌∷◌, ◌++◌, Some}
-use Rattle.std.proofs.Common.{None, Bool, true, false, cond, nat_le, refl, sym, ◌∙◌, inl, inr, arith}
+use Rattle.std.proofs.Common.{None, Option, Bool, true, false, cond, nat_le, refl, sym, ◌∙◌, inl, inr, arith}
 use Rattle.std.proofs.lemmas.Bool.{cases_eq}
 use Rattle.std.specs.Prelude.{pos}
 use Rattle.std.specs.Option.{option_or}
@@ -8,6 +8,10 @@ use Rattle.fx_math.specs.Sums.{joined}
 use Rattle.fx_sweep.specs.Range.{first_range}
 use Rattle.fx_sweep.specs.declared.target.Place.{Place}
 use Rattle.fx_sweep.specs.declared.target.RangeAt.{RangeAt}
+
+pub first_none : {A : Type 0} (a b : Option A) → option_or a b ≡ None → a ≡ None
+first_none None b h = refl
+first_none (Some x) b h = h
 
 pub range_append : (value : Place → ℕ) (ps qs : List Place) →
     first_range value (ps ++ qs) ≡ option_or (first_range value ps) (first_range value qs)

@@ -17,7 +17,7 @@ use Rattle.fx_sweep.specs.Standing.{GainsAreBelow, IsRepeated, Stands}
 use Rattle.fx_sweep.specs.Weights.{carried, carry, inputs, settle, settled, to_input}
 use Rattle.fx_sweep.specs.declared.target.Place.{Place}
 use Rattle.fx_sweep.specs.declared.target.Place.TheVariants.{Weight, Gain, Input, Rest}
-use Rattle.fx_sweep.proofs.SoFar.{first_none}
+use Rattle.fx_sweep.proofs.Ranges.{first_none}
 
 -- ---- sums of equal numbers
 

@@ -4,14 +4,5 @@ pub mod Gains
 pub mod Range
 pub mod Swept
 pub mod Steps
-pub mod Totals
-pub mod Bounds
-pub mod Padding
 pub mod Ordered
-pub mod Growth
-pub mod Laws
-pub mod AllTime
-pub mod Kept
-pub mod Filled
-pub mod Series
 pub mod Standing

@@ -123,9 +123,10 @@ impl<const N: usize> Sweep<N> {
         Ok(())
     }
 
-    // One moment of the sweep; or at most so many, where it leaves what is carried as it was, so that those after it
-    // repeat it. Answers how many. Only one is counted as made.
-    pub(crate) fn moments(&mut self, net: &Net<N>, most: u16) -> Result<u16, RangeAt>
+    /// One moment of the sweep; or at most `most`, where it leaves what is carried as it was, so that those after it
+    /// repeat it. Answers how many, of which only one is counted as made. Its error is that of `moment`. With those that
+    /// answered Ok since the last start, `most` is at most `GREATEST_LENGTH`.
+    pub fn moments(&mut self, net: &Net<N>, most: u16) -> Result<u16, RangeAt>
         requires some { 1 ≤ most }
         requires short { self.old.count + most ≤ GREATEST_LENGTH }
         ensures some { IfOk result (λ moments. 1 ≤ moments) }

@@ -63,3 +63,20 @@ fn thousand_times_itself(rt: HostRuntime) -> Result<(), Fail> {
     assert_eq!(rt; sweep.made(), 4);
     Ok(())
 }
+
+#[test]
+fn moments_that_repeat(rt: HostRuntime) -> Result<(), Fail> {
+    let half = Frac::new(1, Den::Two(1)).ok_or("in range")?;
+    let net = one_row(&rt, half)?;
+    let mut sweep: Sweep<1> = Sweep::new(rt.alloc())?;
+    sweep.start(Target::Row(0));
+    let first = run(&mut sweep, &net, 66);
+    assert_eq!(rt; first, Ok(()));
+    let others = sweep.moments(&net, 100);
+    assert_eq!(rt; others, Ok(100));
+    assert_eq!(rt; sweep.row_gain(0), (1i128 << 65) - 1);
+    assert_eq!(rt; sweep.width(0), 1);
+    assert_eq!(rt; sweep.rest(0), 0);
+    assert_eq!(rt; sweep.made(), 67);
+    Ok(())
+}

@@ -1,5 +1,5 @@
 use Rattle.std.proofs.Common.{sym}
-use Rattle.fx_sweep.specs.Kept.{bound_in}
+use Rattle.fx_totals.specs.Kept.{bound_in}
 use Rattle.fx_block.proofs.Raised.{below_caps}
 use Rattle.fx_block.proofs.least.end_of.Goals as goal
 

@@ -1,5 +1,5 @@
 use Rattle.std.proofs.Common.{◌==◌, not, sym, ◌∙◌}
-use Rattle.fx_sweep.specs.Kept.{bound_in}
+use Rattle.fx_totals.specs.Kept.{bound_in}
 use Rattle.fx_block.proofs.Raised.{first_stays}
 use Rattle.fx_block.proofs.least.first_changed.Goals as goal
 

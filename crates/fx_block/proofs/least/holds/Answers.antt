@@ -2,8 +2,8 @@ use Rattle.std.proofs.Common.{◌≡◌, true, FitsSigned, subst, rules, pos, �
 use Rattle.std.specs.Int.{w128}
 use Rattle.std.specs.Prelude.{◌↔◌}
 use Rattle.std.proofs.lemmas.Int.{to_z-of_z}
-use Rattle.fx_sweep.specs.Kept.{bound_in}
 use Rattle.fx_sweep.specs.Target.{one}
+use Rattle.fx_totals.specs.Kept.{bound_in}
 use Rattle.fx_block.proofs.Raised.{serves_so}
 use Rattle.fx_block.proofs.least.holds.Goals as goal
 

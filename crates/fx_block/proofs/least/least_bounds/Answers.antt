@@ -1,4 +1,4 @@
-use Rattle.fx_sweep.specs.Kept.{bound_in}
+use Rattle.fx_totals.specs.Kept.{bound_in}
 use Rattle.fx_block.proofs.Ended.{found_least, found_none}
 use Rattle.fx_block.proofs.least.least_bounds.Goals as goal
 

@@ -1,7 +1,7 @@
 use Rattle.std.proofs.Common.{arith, rules, ◌≡◌, FitsSigned, ◌^◌, ◌∙◌, pos, w64}
 use Rattle.std.proofs.lemmas.Int.{to_z-of_z}
-use Rattle.fx_sweep.specs.Kept.{bound_in}
 use Rattle.fx_sweep.specs.Swept.{whole_in}
+use Rattle.fx_totals.specs.Kept.{bound_in}
 use Rattle.fx_block.specs.Told.{kept_raise}
 use Rattle.fx_block.proofs.Raised.{all_raised, one_more_raised, raise_past}
 use Rattle.fx_block.proofs.least.raise.Goals as goal

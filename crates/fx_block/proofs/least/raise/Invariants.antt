@@ -1,5 +1,5 @@
 use Rattle.std.proofs.Common.{◌≡◌, ℕ, ◌<◌, ◌^◌, length}
-use Rattle.fx_sweep.specs.Kept.{AreUpTo, bound_in}
+use Rattle.fx_totals.specs.Kept.{AreUpTo, bound_in}
 use Rattle.fx_block.specs.Told.{kept_raise}
 use Rattle.fx_block.proofs.least.raise.Given as goal
 

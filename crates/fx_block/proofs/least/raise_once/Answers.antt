@@ -1,5 +1,5 @@
 use Rattle.std.proofs.Common.{ap, ◌∙◌, subst, ◌^◌}
-use Rattle.fx_sweep.specs.Kept.{bound_in}
+use Rattle.fx_totals.specs.Kept.{bound_in}
 use Rattle.fx_block.specs.Raising.{ended_by}
 use Rattle.fx_block.specs.Raising.Raises.{Slow}
 use Rattle.fx_block.specs.Told.{Tells}

@@ -1,6 +1,6 @@
 use Rattle.std.proofs.Common.{◌≡◌, ℕ, ◌+◌, ◌-◌, ◌≤◌, arith, rules, ap, sym, ◌∙◌, subst, true, false}
 use Rattle.std.proofs.lemmas.Grind.{common_steps}
-use Rattle.fx_sweep.specs.Kept.{AreBounds, bound_in}
+use Rattle.fx_totals.specs.Kept.{AreBounds, bound_in}
 use Rattle.fx_block.specs.Raising.{raises_by}
 use Rattle.fx_block.specs.Told.{Tells, is_slow, kept_raise}
 use Rattle.fx_block.proofs.Raised.{begins, ends_after, raise_past, raised_again, told_least}

@@ -1,5 +1,5 @@
 use Rattle.std.proofs.Common.{◌≡◌, ℕ, ◌≤◌, ◌-◌, length}
-use Rattle.fx_sweep.specs.Kept.{AreBounds, bound_in}
+use Rattle.fx_totals.specs.Kept.{AreBounds, bound_in}
 use Rattle.fx_block.specs.Raising.{raises_by}
 use Rattle.fx_block.specs.Told.{kept_raise}
 use Rattle.fx_block.proofs.least.raise_until_rest.Given as goal

@@ -1,6 +1,6 @@
 use Rattle.std.proofs.Common.{ℕ, ◌<◌}
-use Rattle.fx_sweep.specs.Kept.{IsUpTo, greatest_bound}
 use Rattle.fx_sweep.specs.Swept.{whole_in}
+use Rattle.fx_totals.specs.Kept.{IsUpTo, greatest_bound}
 use Rattle.fx_block.proofs.tests.are_bounds.Given as goal
 
 abbrev pub invariant-loop-i : goal.invariant-loop-i

@@ -1,6 +1,6 @@
 use Rattle.std.proofs.Common.{ℕ, ◌<◌, ◌≤◌}
-use Rattle.fx_sweep.specs.Filled.{length_in}
 use Rattle.fx_sweep.specs.declared.limits.TheConstants.{GREATEST_LENGTH}
+use Rattle.fx_totals.specs.Filled.{length_in}
 use Rattle.fx_block.proofs.tests.are_lengths.Given as goal
 
 abbrev pub invariant-loop-l : goal.invariant-loop-l

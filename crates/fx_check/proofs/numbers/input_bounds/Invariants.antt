@@ -1,7 +1,7 @@
 use Rattle.std.proofs.Common.{◌≡◌, ℕ, ◌<◌, ◌≤◌, length, pos}
 use Rattle.fx_eqs.specs.declared.limits.TheConstants.{PORTS}
-use Rattle.fx_sweep.specs.Kept.{AreBounds}
 use Rattle.fx_sweep.specs.Swept.{whole_in}
+use Rattle.fx_totals.specs.Kept.{AreBounds}
 use Rattle.fx_block.specs.Formats.{input_at}
 use Rattle.fx_check.proofs.numbers.input_bounds.Given as goal
 

@@ -1,6 +1,6 @@
 use Rattle.std.proofs.Common.{◌≡◌, ℕ, ◌<◌, ◌≤◌, length, pos}
-use Rattle.fx_sweep.specs.Kept.{AreBounds}
 use Rattle.fx_sweep.specs.Swept.{whole_in}
+use Rattle.fx_totals.specs.Kept.{AreBounds}
 use Rattle.fx_check.proofs.numbers.row_bounds.Given as goal
 
 abbrev pub invariant-loop-j : goal.invariant-loop-j

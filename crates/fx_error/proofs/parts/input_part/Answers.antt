@@ -2,7 +2,7 @@ use Rattle.std.proofs.Common.{◌≡◌, ◌+◌, ◌*◌, ◌^◌, rules, ap, s
 use mir.Syntax.{w128}
 use Rattle.std.proofs.lemmas.Int.{to_z-of_z}
 use Rattle.std.proofs.Math.IntN.{pos, ◌+ℤ◌, ◌*ℤ◌}
-use Rattle.fx_sweep.specs.Kept.{IsUpTo, bound_in, kept_gain}
+use Rattle.fx_totals.specs.Kept.{IsUpTo, bound_in, kept_gain}
 use Rattle.fx_error.proofs.Adding.{one_more_fits, one_more_total}
 use Rattle.fx_error.proofs.parts.input_part.Goals as goal
 

@@ -3,9 +3,9 @@ use mir.Syntax.{w128}
 use Rattle.std.proofs.lemmas.Int.{to_z-of_z}
 use Rattle.std.proofs.Math.IntN.{pos, ◌+ℤ◌, ◌*ℤ◌}
 use Rattle.fx_math.specs.Sums.{total}
-use Rattle.fx_sweep.specs.Filled.{length_in, target_in}
-use Rattle.fx_sweep.specs.Kept.{bound_in, kept_rest, kept_width}
 use Rattle.fx_sweep.specs.Target.{start_of}
+use Rattle.fx_totals.specs.Filled.{length_in, target_in}
+use Rattle.fx_totals.specs.Kept.{bound_in, kept_rest, kept_width}
 use Rattle.fx_error.proofs.Dividing.{are_parts, parts_add_up}
 use Rattle.fx_error.proofs.Fitting.{parts_fit}
 use Rattle.fx_error.proofs.parts.split.Goals as goal

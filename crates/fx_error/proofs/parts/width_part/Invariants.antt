@@ -1,7 +1,7 @@
 use Rattle.std.proofs.Common.{◌≡◌, ◌*◌, ◌^◌, pos}
 use Rattle.std.proofs.Math.IntN.{pos, ◌*ℤ◌}
 use Rattle.fx_math.specs.Sums.{total}
-use Rattle.fx_sweep.specs.Kept.{IsUpTo, bound_in, kept_width}
+use Rattle.fx_totals.specs.Kept.{IsUpTo, bound_in, kept_width}
 use Rattle.fx_error.proofs.parts.width_part.Given as goal
 
 abbrev pub invariant-loop-i : goal.invariant-loop-i

@@ -2,8 +2,8 @@ use Rattle.std.proofs.Common.{◌≡◌, ◌+◌, ◌*◌, ◌^◌, rules, ap, s
 use mir.Syntax.{w128}
 use Rattle.std.proofs.lemmas.Int.{to_z-of_z}
 use Rattle.std.proofs.Math.IntN.{pos, ◌+ℤ◌, ◌*ℤ◌}
-use Rattle.fx_sweep.specs.Kept.{IsUpTo, bound_in, kept_width}
-use Rattle.fx_sweep.proofs.Kept.{one_more_fits, one_more_total}
+use Rattle.fx_totals.specs.Kept.{IsUpTo, bound_in, kept_width}
+use Rattle.fx_totals.proofs.Kept.{one_more_fits, one_more_total}
 use Rattle.fx_gain.proofs.ends.width_part.Goals as goal
 
 pub loop-i-preserved : goal.loop-i-preserved

@@ -2,7 +2,7 @@ use Rattle.std.proofs.Common.{◌≡◌, arith, ap, sym, ◌∙◌, subst, lengt
 use Rattle.fx_eqs.specs.Equations.{Equations}
 use Rattle.fx_eqs.specs.Expanded.{expanded}
 use Rattle.fx_net.specs.Tables.{net_of}
-use Rattle.fx_sweep.specs.Filled.{CanBeFilled}
+use Rattle.fx_totals.specs.Filled.{CanBeFilled}
 use Rattle.fx_gain.specs.Lengths.{original_count}
 use Rattle.fx_gain.specs.Rows.{row_targets}
 use Rattle.fx_gain.proofs.Listed.{range_met, rows_can_be_filled}

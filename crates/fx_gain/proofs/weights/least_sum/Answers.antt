@@ -5,9 +5,9 @@ use Rattle.std.proofs.Math.IntN.{◌+ℤ◌}
 use Rattle.fx_eqs.specs.declared.limits.TheConstants.{PORTS}
 use Rattle.fx_math.specs.Sums.{sum_below}
 use Rattle.fx_nums.specs.Interval.{magnitude}
-use Rattle.fx_sweep.specs.Kept.{IsUpTo}
 use Rattle.fx_sweep.specs.Swept.{interval_in}
-use Rattle.fx_sweep.proofs.Kept.{one_more_total}
+use Rattle.fx_totals.specs.Kept.{IsUpTo}
+use Rattle.fx_totals.proofs.Kept.{one_more_total}
 use Rattle.fx_gain.specs.Enclosing.{least_magnitude}
 use Rattle.fx_gain.proofs.Sums.{one_more_below, sum_grows}
 use Rattle.fx_gain.proofs.weights.least_sum.Goals as goal

@@ -2,8 +2,8 @@ use Rattle.std.proofs.Common.{◌≡◌, ◌+◌, ◌*◌}
 use Rattle.fx_math.specs.Sums.{sum_below, total}
 use Rattle.fx_eqs.specs.declared.limits.TheConstants.{PORTS}
 use Rattle.fx_nums.specs.Interval.{magnitude}
-use Rattle.fx_sweep.specs.Kept.{IsUpTo}
 use Rattle.fx_sweep.specs.Swept.{interval_in}
+use Rattle.fx_totals.specs.Kept.{IsUpTo}
 use Rattle.fx_gain.specs.Enclosing.{least_magnitude}
 use Rattle.fx_gain.proofs.weights.least_sum.Given as goal
 

@@ -1,7 +1,7 @@
 use Rattle.std.proofs.Common.{◌≡◌, ℕ, ◌<◌, ◌≤◌, length, pos}
 use Rattle.fx_msb.specs.declared.widths.TheConstants.{GREATEST_BOUND}
-use Rattle.fx_sweep.specs.Kept.{AreBounds}
 use Rattle.fx_sweep.specs.Swept.{whole_in}
+use Rattle.fx_totals.specs.Kept.{AreBounds}
 use Rattle.fx_block.specs.Candidate.{cap_of}
 use Rattle.fx_make.proofs.caps.caps.Given as goal
 

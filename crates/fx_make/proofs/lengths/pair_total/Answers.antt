@@ -1,6 +1,6 @@
 use Rattle.std.proofs.Common.{rules, ◌+◌, ap, ap₂, ◌∙◌, FitsSigned, to_z-of_z}
 use Rattle.std.specs.Int.{w128}
-use Rattle.fx_sweep.specs.Kept.{bound_in, kept_total}
+use Rattle.fx_totals.specs.Kept.{bound_in, kept_total}
 use Rattle.fx_make.proofs.lengths.pair_total.Goals as goal
 
 pub returns-clause-value : goal.returns-clause-value

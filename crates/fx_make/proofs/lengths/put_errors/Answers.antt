@@ -7,7 +7,7 @@ use Rattle.std.specs.Prelude.{Some}
 use Rattle.std.proofs.lemmas.Int.{ints}
 use Rattle.fx_files.specs.declared.formats.OutputFormat.{OutputFormat}
 use Rattle.fx_block.specs.Formats.{output_at}
-use Rattle.fx_sweep.specs.Kept.{bound_in}
+use Rattle.fx_totals.specs.Kept.{bound_in}
 use Rattle.fx_make.specs.Lengths.{above_fail, kept_pairs}
 use Rattle.fx_make.specs.declared.fail.Fail.TheVariants.{Error}
 use Rattle.fx_make.proofs.Places.{first_more}

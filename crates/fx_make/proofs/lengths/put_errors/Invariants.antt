@@ -2,8 +2,8 @@ use Rattle.std.proofs.Common.{◌≡◌, ℕ, ◌<◌, length}
 use Rattle.std.specs.Prelude.{None}
 use Rattle.fx_block.specs.Candidate.{first_above}
 use Rattle.fx_block.specs.Formats.{output_at}
-use Rattle.fx_sweep.specs.Kept.{bound_in}
 use Rattle.fx_sweep.specs.Swept.{whole_in}
+use Rattle.fx_totals.specs.Kept.{bound_in}
 use Rattle.fx_make.specs.Lengths.{kept_pairs}
 use Rattle.fx_make.proofs.lengths.put_errors.Given as goal
 

@@ -1,7 +1,7 @@
 use Rattle.std.proofs.Common.{◌≡◌, subst, arith, length, replicate}
 use Rattle.fx_eqs.specs.Fits.{EquationsFit}
-use Rattle.fx_sweep.specs.Filled.{length_in}
-use Rattle.fx_sweep.specs.Kept.{bound_in}
+use Rattle.fx_totals.specs.Filled.{length_in}
+use Rattle.fx_totals.specs.Kept.{bound_in}
 use Rattle.fx_block.specs.Candidate.{candidate_count}
 use Rattle.fx_block.specs.Formats.{bound_of}
 use Rattle.fx_block.specs.Raising.{least_by_raises}

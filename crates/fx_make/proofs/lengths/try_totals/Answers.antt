@@ -1,7 +1,7 @@
 use Rattle.std.proofs.Common.{subst}
 use Rattle.fx_eqs.specs.Fits.{EquationsFit}
-use Rattle.fx_sweep.specs.Kept.{bound_in}
 use Rattle.fx_sweep.specs.Swept.{whole_in}
+use Rattle.fx_totals.specs.Kept.{bound_in}
 use Rattle.fx_make.specs.Lengths.{TellsRaises, kept_pairs, raises_of}
 use Rattle.fx_make.proofs.Sweeps.{pair_total_is}
 use Rattle.fx_make.proofs.Telling.{told_by_bounds, told_by_errors}

@@ -1,5 +1,5 @@
 use Rattle.std.proofs.Common.{All, arith, subst}
-use Rattle.fx_sweep.specs.Kept.{bound_in}
+use Rattle.fx_totals.specs.Kept.{bound_in}
 use Rattle.fx_block.specs.Made.{IsCertificateOf}
 use Rattle.fx_make.specs.Designs.{ErrorFits}
 use Rattle.fx_make.proofs.MadeCertificates.{certificate_fits, certificate_of}

@@ -4,7 +4,7 @@ use Rattle.fx_math.specs.Words.{WidthFits}
 use Rattle.fx_files.specs.declared.formats.OutputFormat.{OutputFormat}
 use Rattle.fx_files.specs.declared.formats.InputFormat.{InputFormat}
 use Rattle.fx_code.specs.Code.{IsWhole}
-use Rattle.fx_sweep.specs.Kept.{bound_in}
+use Rattle.fx_totals.specs.Kept.{bound_in}
 use Rattle.fx_block.specs.Made.{IsProgramOf}
 use Rattle.fx_quant.specs.Design.{HasShape}
 use Rattle.fx_quant.specs.Widths.{AreRowWidths}

@@ -1,7 +1,7 @@
 use Rattle.std.proofs.Common.{◌≡◌, ◌++◌}
 use Rattle.std.specs.Prelude.{Some}
 use Rattle.fx_math.specs.Sums.{joined}
-use Rattle.fx_sweep.specs.Filled.{length_in}
+use Rattle.fx_totals.specs.Filled.{length_in}
 use Rattle.fx_make.specs.Candidates.{candidate_at}
 use Rattle.fx_make.specs.Search.{failed_of}
 use Rattle.fx_make.proofs.searching.add_all.Given as goal

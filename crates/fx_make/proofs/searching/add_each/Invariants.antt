@@ -1,6 +1,6 @@
 use Rattle.std.proofs.Common.{◌≡◌, ◌++◌}
 use Rattle.fx_math.specs.Sums.{joined}
-use Rattle.fx_sweep.specs.Filled.{length_in}
+use Rattle.fx_totals.specs.Filled.{length_in}
 use Rattle.fx_make.specs.Candidates.{candidate_at}
 use Rattle.fx_make.specs.Lengths.{fail_in}
 use Rattle.fx_make.specs.Search.{failed_of}

@@ -1,5 +1,5 @@
 use Rattle.std.proofs.Common.{◌<◌, refl, arith}
-use Rattle.fx_sweep.specs.Kept.{bound_in}
+use Rattle.fx_totals.specs.Kept.{bound_in}
 use Rattle.fx_block.specs.Candidate.{candidate_count, candidate_net, cap_of}
 use Rattle.fx_block.specs.Formats.{bound_of}
 use Rattle.fx_make.proofs.AtRest.{least_settled}

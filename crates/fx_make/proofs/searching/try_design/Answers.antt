@@ -1,7 +1,7 @@
 use Rattle.std.proofs.Common.{◌≡◌, ◌<◌, ◌≤◌, refl, ap, sym, ◌∙◌, subst, arith, length}
-use Rattle.fx_sweep.specs.Filled.{length_in}
-use Rattle.fx_sweep.specs.Kept.{bound_in}
 use Rattle.fx_sweep.specs.Swept.{whole_in}
+use Rattle.fx_totals.specs.Filled.{length_in}
+use Rattle.fx_totals.specs.Kept.{bound_in}
 use Rattle.fx_make.specs.Candidates.{candidate_at}
 use Rattle.fx_make.specs.Lengths.{HasPassing, fail_in}
 use Rattle.fx_make.specs.Made.{IsMadeOf}

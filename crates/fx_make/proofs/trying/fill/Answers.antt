@@ -1,6 +1,6 @@
 use Rattle.std.proofs.Common.{◌≡◌, ◌+◌, ◌*◌, ◌≤◌, ap, sym, ◌∙◌, subst, length, take, lit<}
 use Rattle.fx_eqs.specs.Fits.{EquationsFit}
-use Rattle.fx_sweep.specs.Series.{AreUpToLength, CanBeSeries}
+use Rattle.fx_totals.specs.Series.{AreUpToLength, CanBeSeries}
 use Rattle.fx_make.specs.Targets.{target_count, targets_of}
 use Rattle.fx_make.proofs.Outputs.{targets_long}
 use Rattle.fx_make.proofs.Sweeps.{can_be_series}

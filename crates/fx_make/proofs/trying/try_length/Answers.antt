@@ -1,8 +1,8 @@
 use Rattle.std.proofs.Common.{◌≡◌, ◌∙◌, subst, length, replicate, lit<}
 use Rattle.fx_eqs.specs.Fits.{EquationsFit}
-use Rattle.fx_sweep.specs.Filled.{Filled, length_in}
-use Rattle.fx_sweep.specs.Kept.{bound_in}
 use Rattle.fx_sweep.specs.Swept.{whole_in}
+use Rattle.fx_totals.specs.Filled.{Filled, length_in}
+use Rattle.fx_totals.specs.Kept.{bound_in}
 use Rattle.fx_block.specs.Candidate.{candidate_range}
 use Rattle.fx_make.specs.Targets.{padded_net, target_count, targets_of}
 use Rattle.fx_make.proofs.Outputs.{targets_long}

@@ -1,8 +1,8 @@
 use Rattle.std.proofs.Common.{rules, ◌≡◌, ℕ, ◌<◌, true, false, ap, sym, ◌∙◌, subst, arith, length}
 use Rattle.std.specs.Prelude.{None, is_none}
-use Rattle.fx_sweep.specs.Filled.{length_in}
-use Rattle.fx_sweep.specs.Kept.{bound_in}
 use Rattle.fx_sweep.specs.Swept.{whole_in}
+use Rattle.fx_totals.specs.Filled.{length_in}
+use Rattle.fx_totals.specs.Kept.{bound_in}
 use Rattle.fx_make.specs.Lengths.{HasPassing, length_fail}
 use Rattle.fx_make.proofs.FirstLength.{first_found, is_passing, none_behind, none_more, told_more}
 use Rattle.fx_make.proofs.trying.try_lengths.Goals as goal

@@ -1,6 +1,6 @@
 use Rattle.std.proofs.Common.{◌≡◌, ℕ, ◌<◌, ◌≤◌}
 use Rattle.std.specs.Prelude.{None}
-use Rattle.fx_sweep.specs.Filled.{length_in}
+use Rattle.fx_totals.specs.Filled.{length_in}
 use Rattle.fx_make.specs.Lengths.{fail_in, first_passing, length_fail}
 use Rattle.fx_make.proofs.trying.try_lengths.Given as goal
 

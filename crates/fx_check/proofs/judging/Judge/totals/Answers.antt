@@ -2,9 +2,9 @@ use Rattle.std.proofs.Common.{◌≡◌, ◌<◌, pos, ap₂, ◌∙◌, length,
 use mir.Syntax.{w128}
 use Rattle.std.proofs.lemmas.Int.{to_z-of_z}
 use Rattle.fx_eqs.specs.Fits.{EquationsFit}
-use Rattle.fx_sweep.specs.Filled.{length_in, target_in}
 use Rattle.fx_sweep.specs.Target.{start_of}
-use Rattle.fx_sweep.specs.Totals.{target_total}
+use Rattle.fx_totals.specs.Filled.{length_in, target_in}
+use Rattle.fx_totals.specs.Totals.{target_total}
 use Rattle.fx_check.specs.Targets.{lengths_of, padded_net, target_count, targets_of}
 use Rattle.fx_check.proofs.Outputs.{targets_long}
 use Rattle.fx_check.proofs.Places.{first_more}

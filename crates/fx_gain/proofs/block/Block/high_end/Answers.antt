@@ -2,10 +2,10 @@ use Rattle.std.proofs.Common.{◌≡◌, ◌<◌, FitsSigned, replicate, rules, 
 use mir.Syntax.{w128}
 use Rattle.std.proofs.lemmas.Int.{to_z-of_z}
 use Rattle.fx_net.specs.Tables.{net_of}
-use Rattle.fx_sweep.specs.Filled.{length_in, target_in}
-use Rattle.fx_sweep.specs.Kept.{bound_in}
 use Rattle.fx_sweep.specs.Target.{start_of}
-use Rattle.fx_sweep.specs.Totals.{target_total}
+use Rattle.fx_totals.specs.Filled.{length_in, target_in}
+use Rattle.fx_totals.specs.Kept.{bound_in}
+use Rattle.fx_totals.specs.Totals.{target_total}
 use Rattle.fx_gain.specs.Enclosing.{output_row}
 use Rattle.fx_gain.specs.Lengths.{original_count}
 use Rattle.fx_gain.specs.Rows.{row_targets}

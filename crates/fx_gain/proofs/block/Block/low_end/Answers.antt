@@ -5,7 +5,7 @@ use Rattle.std.proofs.lemmas.Int.{ints, to_z-of_z}
 use Rattle.fx_eqs.specs.declared.limits.TheConstants.{PORTS}
 use Rattle.fx_math.specs.Sums.{total}
 use Rattle.fx_net.specs.Tables.{net_of}
-use Rattle.fx_sweep.specs.Kept.{IsUpTo, bound_in, greatest_gain, kept_width}
+use Rattle.fx_totals.specs.Kept.{IsUpTo, bound_in, greatest_gain, kept_width}
 use Rattle.fx_gain.specs.Enclosing.{output_row}
 use Rattle.fx_gain.specs.Lengths.{original_count}
 use Rattle.fx_gain.proofs.Made.{gain_small, low_is}

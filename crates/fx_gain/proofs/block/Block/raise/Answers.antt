@@ -1,6 +1,6 @@
 use Rattle.std.proofs.Common.{◌≤◌, arith, replicate}
 use Rattle.fx_net.specs.Tables.{net_of}
-use Rattle.fx_sweep.specs.Kept.{bound_in}
+use Rattle.fx_totals.specs.Kept.{bound_in}
 use Rattle.fx_gain.specs.Lengths.{original_count, raises_alone}
 use Rattle.fx_gain.specs.Rows.{row_targets}
 use Rattle.fx_gain.proofs.Holding.{rests_alone}

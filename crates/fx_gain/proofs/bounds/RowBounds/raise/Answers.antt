@@ -1,8 +1,8 @@
 use Rattle.std.proofs.Common.{◌≡◌, ◌∙◌, rules, pos, replicate, subst, sym, length, drop}
 use Rattle.std.proofs.lemmas.List.{take_at}
 use Rattle.fx_msb.specs.declared.widths.TheConstants.{GREATEST_BOUND}
-use Rattle.fx_sweep.specs.Filled.{length_in}
-use Rattle.fx_sweep.specs.Kept.{bound_in}
+use Rattle.fx_totals.specs.Filled.{length_in}
+use Rattle.fx_totals.specs.Kept.{bound_in}
 use Rattle.fx_block.specs.Raising.{least_by_raises}
 use Rattle.fx_block.specs.Told.{Tells}
 use Rattle.fx_gain.specs.Lengths.{bound_alone, raises_up}

@@ -1,5 +1,0 @@
-use Rattle.fx_sweep.proofs.TotalLaw.{totals_bound}
-use Rattle.fx_sweep.proofs.laws.totals_bound.Goals as goal
-
-pub returns : goal.returns
-returns c = totals_bound c.targets_lie_between.ensures

@@ -1,0 +1,11 @@
+use Rattle.std.proofs.Common.{◌≡◌, ℕ, ◌≤◌, length}
+use Rattle.fx_net.specs.Tables.{net_of}
+use Rattle.fx_totals.proofs.series.keep_each.Given as goal
+use Rattle.fx_totals.specs.Series.{IsKeptOn, IsMadeForEach, part_in}
+
+abbrev pub invariant-loop-l : goal.invariant-loop-l
+invariant-loop-l g l = record {
+  long : length l.parts ≡ length l.initial.parts;
+  rest : (k : ℕ) → l.l ≤ k → part_in l.parts k ≡ part_in l.initial.parts k;
+  done : IsMadeForEach (IsKeptOn l.sweep (net_of l.net) l.t l.moments) l.l l.initial.parts l.parts;
+}

@@ -1,0 +1,9 @@
+pub mod Totals
+pub mod Bounds
+pub mod Padding
+pub mod Growth
+pub mod Laws
+pub mod AllTime
+pub mod Kept
+pub mod Filled
+pub mod Series
