@@ -358,49 +358,6 @@ fn clear(x: &mut [i64])
     x.fill(0);
 }
 
-// How many of the first rows are filled.
-fn filled_rows<const N: usize>(t: &Totals<N>) -> usize
-    ensures filled { result ≤ t.now.leading }
-    ensures inside { result ≤ N }
-    ensures all { t.now.leading ≤ N → result ≡ t.now.leading }
-{
-    t.rows().min(N)
-}
-
-// Raises the bounds `x` of the rows from 0 to the end of raises.
-fn raise_until_rest<const N: usize>(
-    t: &Totals<N>,
-    bounds: &[i64; PORTS],
-    caps: &[i64],
-    x: &mut [i64],
-    scratch: &mut [i64],
-) -> Least
-    requires bounds { AreBounds bounds.now }
-    requires caps { AreBounds caps.now }
-    requires cap_count { length caps.now ≡ N }
-    requires count { length x.old ≡ N }
-    requires room { length scratch.old ≡ N }
-    ensures count { length x.new ≡ length x.old }
-    ensures room { length scratch.new ≡ length scratch.old }
-    ensures fits { AreBounds x.new }
-    ensures past { (j : ℕ) → t.now.leading ≤ j → bound_in x.new j ≡ 0 }
-    ensures end { (net : AnyNet) (targets : List AnyTarget) (lengths : List ℕ) →
-        Filled t.now net targets lengths → t.now.leading ≤ N →
-        Tells (least_by_raises net t.now.leading (length_in lengths) (bound_in bounds.now) (bound_in caps.now))
-        result (bound_in x.new) }
-{
-    let rows = filled_rows(t);
-    clear(x);
-    for _ in 0..MOST_RAISES - 1 {
-        let least = raise_once(t, rows, bounds, caps, x, scratch);
-        if !least.is_slow() {
-            return least;
-        }
-        x.copy_from_slice(scratch);
-    }
-    raise_once(t, rows, bounds, caps, x, scratch)
-}
-
 /// Raises the bounds `x` of the rows from 0, all at once, each to its total over 2^64, rounded up, until a raise
 /// changes nothing, a raised bound passes its cap, or `MOST_RAISES` raises have each changed something. The first
 /// `t.rows()` filled targets are the rows. At rest `x` has the least bounds that serve, with 0 past the rows. Bounds of
@@ -422,18 +379,27 @@ pub fn least_bounds<const N: usize>(
     ensures fits { AreBounds x.new }
     ensures past { (j : ℕ) → t.now.leading ≤ j → bound_in x.new j ≡ 0 }
     ensures end { (net : AnyNet) (targets : List AnyTarget) (lengths : List ℕ) →
-        Filled t.now net targets lengths → t.now.leading ≤ N →
+        Filled t.now net targets lengths →
         Tells (least_by_raises net t.now.leading (length_in lengths) (bound_in bounds.now) (bound_in caps.now))
         result (bound_in x.new) }
     ensures least { (net : AnyNet) (targets : List AnyTarget) (lengths : List ℕ) →
-        Filled t.now net targets lengths → t.now.leading ≤ N → result ≡ ToldRest →
+        Filled t.now net targets lengths → result ≡ ToldRest →
         AreLeastBounds net t.now.leading (length_in lengths) (bound_in bounds.now) (bound_in x.new) }
     ensures none { (net : AnyNet) (targets : List AnyTarget) (lengths : List ℕ) →
-        Filled t.now net targets lengths → t.now.leading ≤ N → is_over result ≡ true → (others : ℕ → ℕ) →
+        Filled t.now net targets lengths → is_over result ≡ true → (others : ℕ → ℕ) →
         AllServe net t.now.leading (length_in lengths) (bound_in bounds.now) others →
         ((j : ℕ) → j < t.now.leading → others j ≤ bound_in caps.now j) → ⊥ }
 {
     totals_fit(t);
     raises_find_the_least();
-    raise_until_rest(t, bounds, caps, x, scratch)
+    let rows = t.rows();
+    clear(x);
+    for _ in 0..MOST_RAISES - 1 {
+        let least = raise_once(t, rows, bounds, caps, x, scratch);
+        if !least.is_slow() {
+            return least;
+        }
+        x.copy_from_slice(scratch);
+    }
+    raise_once(t, rows, bounds, caps, x, scratch)
 }

@@ -66,13 +66,6 @@ told_alone net filter k m j least x filled told =
     ∙ raises_same net n (length_in (replicate n m)) (λ i. m) (bound_alone filter j) (λ i l. length_at n m i l))
     told
 
--- at most as many rows lead as there are
-pub few_lead : (net : Net) (filter : Filter) (k : Kept) (m size : ℕ) →
-    Filled k net (row_targets (original_count filter)) (replicate (original_count filter) m) →
-    original_count filter ≤ size → k.leading ≤ size
-few_lead net filter k m size filled inside =
-    let all = all_lead k.leading (original_count filter) filled.leading in omega (arith, all, inside)
-
 pub no_failure : (m j : ℕ) (r : Raises) (least : Least) (x : ℕ → ℕ) → Tells r least x → least ≡ ToldRest →
     unrest m j r ≡ None
 no_failure m j (Rest y) least x told is = refl

@@ -20,7 +20,7 @@ ghost use Rattle.fx_gain.specs.Rows.{IsBlock};
 ghost use Rattle.fx_gain.specs.Weights.{AreWeights};
 
 use crate::bounds::{RowBounds, bound_of, bounds_alone};
-use crate::ends::{interval_of, less_widths, width_part};
+use crate::ends::{interval_of, less_widths};
 use crate::laws::enclosures_hold;
 use crate::weights::{least_sum, weights_for, worst_words};
 use fx_block::raises_find_the_least;
@@ -29,7 +29,7 @@ use fx_files::{Filter, filters_fit};
 use fx_net::{Net, nets_fit};
 use fx_nums::Iv;
 use fx_sweep::Sweep;
-use fx_totals::{Totals, totals_fit};
+use fx_totals::Totals;
 use std::alloc::{AllocError, Global};
 
 // The first row of the equations in their net: so many rows before it hold inputs.
@@ -87,7 +87,6 @@ impl<'a, const N: usize> Block<'a, N> {
         ensures { bound_in rows.new
             ≡ rows_alone (net_of self.now.net.now) self.now.filter.now self.now.moments j }
     {
-        totals_fit(self.totals);
         rows.raise(self.totals, self.filter, j);
     }
 
@@ -118,9 +117,8 @@ impl<'a, const N: usize> Block<'a, N> {
         ensures value { result ≡ low_end (net_of self.now.net.now) self.now.filter.now self.now.moments o j }
         ensures fits { unsigned_abs result < 2 ^ INTERVAL_BITS }
     {
-        totals_fit(self.totals);
         filters_fit(self.filter);
-        let widths = width_part(self.totals, self.output_row(o), x);
+        let widths = self.totals.width_part(self.output_row(o), x);
         less_widths(
             least_sum(weights, j, self.moments),
             bound_of(self.filter, j),

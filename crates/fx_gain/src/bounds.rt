@@ -14,7 +14,7 @@ use fx_block::{Least, least_bounds};
 use fx_eqs::PORTS;
 use fx_files::{Filter, filters_fit};
 use fx_msb::GREATEST_BOUND;
-use fx_totals::Totals;
+use fx_totals::{Totals, totals_fit};
 use std::alloc::{AllocError, Global};
 use std::marker::Model;
 
@@ -80,9 +80,10 @@ impl<const N: usize> RowBounds<N> {
     pub fn raise(&mut self, totals: &Totals<N>, f: &Filter, j: usize) -> Least
         requires { j < length f.now.inputs }
         ensures { (net : AnyNet) (targets : List AnyTarget) (lengths : List ℕ) →
-            Filled totals.now net targets lengths → totals.now.leading ≤ N →
+            Filled totals.now net targets lengths →
             Tells (raises_up net totals.now.leading (length_in lengths) (bound_alone f.now j)) result (bound_in self.new) }
     {
+        totals_fit(totals);
         let bounds = bounds_alone(f, j);
         least_bounds(totals, &bounds, &self.caps, &mut self.x, &mut self.scratch)
     }

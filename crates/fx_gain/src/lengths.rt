@@ -43,7 +43,6 @@ fn bounds_failure<const N: usize>(
     rows: &mut RowBounds<N>,
     moments: u16,
 ) -> Option<LengthFail>
-    requires inside { original_count f.now ≤ N }
     requires filled { Filled totals.now (net_of net.now) (row_targets (original_count f.now))
         (replicate (original_count f.now) moments) }
     ensures { result ≡ bounds_failure (net_of net.now) f.now moments }

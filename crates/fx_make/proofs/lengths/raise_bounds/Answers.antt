@@ -28,8 +28,7 @@ returns-clause-told g c m filled =
     ≡ raises_of f d.rows m =
     raises_are f d c.filters_fit.ensures system c.requires.rows c.empty_rows_change_nothing.ensures g.row.N
     c.requires.room k m filled caps c.caps-caps.ensures.value in
-    let end = c.least_bounds.ensures.end (padded_net g.row.N f d.rows) (targets_of f d.rows) lengths filled
-    (let room = c.requires.room in omega (arith, leading, room)) in
+    let end = c.least_bounds.ensures.end (padded_net g.row.N f d.rows) (targets_of f d.rows) lengths filled in
     let bounded : Tells (least_by_raises (padded_net g.row.N f d.rows) k.leading (length_in lengths) (bound_of f) caps)
     c.least_bounds.result x =
     subst (λ b. Tells (least_by_raises (padded_net g.row.N f d.rows) k.leading (length_in lengths) b caps)

@@ -1,4 +1,4 @@
-use Rattle.std.proofs.Common.{◌∙◌, ◌<◌, FitsSigned, ap₂, arith, rules, sym, w64, subst, ℕ}
+use Rattle.std.proofs.Common.{◌∙◌, ◌<◌, FitsSigned, ap, arith, rules, sym, w64, subst}
 use mir.Syntax.{w128}
 use Rattle.std.proofs.Math.IntN.{pos, ◌*ℤ◌}
 use Rattle.std.proofs.lemmas.Int.{ints, to_z-of_z}
@@ -42,8 +42,7 @@ returns-clause-value g c =
     let inside : output_row f c.args.o < original_count f =
     rw c.output_row.ensures.value at c.output_row.ensures.inside in
     let cut = to_z-of_z w128 c.width_part-widths.result d ∙ c.width_part-widths.ensures.value
-    ∙ ap₂ (λ (n r : ℕ). total n (λ i. kept_width k r i *ℤ pos (bound_in x i))) (sym c.totals_fit.ensures.size)
-    c.output_row.ensures.value in
+    ∙ ap (λ r. total k.size (λ i. kept_width k r i *ℤ pos (bound_in x i))) c.output_row.ensures.value in
     to_z-of_z w128 c.less_widths.result s ∙ c.less_widths.ensures.value
     ∙ low_is net f m c.args.o c.args.j c.args.weights.now c.requires.weights port k x _ _ _ c.args.self.now.serves inside
     c.requires.alone (to_z-of_z w128 c.least_sum.result a ∙ c.least_sum.ensures.value)

@@ -2,7 +2,7 @@ use Rattle.std.proofs.Common.{◌≡◌, ℕ, ◌≤◌, ◌-◌, length}
 use Rattle.fx_totals.specs.Kept.{AreBounds, bound_in}
 use Rattle.fx_block.specs.Raising.{raises_by}
 use Rattle.fx_block.specs.Told.{kept_raise}
-use Rattle.fx_block.proofs.least.raise_until_rest.Given as goal
+use Rattle.fx_block.proofs.least.least_bounds.Given as goal
 
 abbrev pub invariant-loop : goal.invariant-loop
 invariant-loop g l = record {
