@@ -1,7 +1,9 @@
 pub mod BetweenRecords
+pub mod Counts
 pub mod Digits
 pub mod FieldLaws
 pub mod LinesSoFar
 pub mod Moments
 pub mod RecordsLeft
 pub mod WordsSoFar
+pub mod Written

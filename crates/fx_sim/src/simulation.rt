@@ -1,7 +1,8 @@
 // Runs of a program on samples.
 
-ghost use Rattle.std.specs.Prelude.{◌≡◌, ◌++◌, ◌∷◌, [], List, ℤ, length, OnOk};
+ghost use Rattle.std.specs.Prelude.{◌≡◌, ◌≤◌, ◌++◌, ◌∷◌, [], List, ℤ, length, OnOk};
 ghost use Rattle.fx_code.specs.Code.{Code, IsWhole};
+ghost use Rattle.fx_eqs.specs.declared.limits.TheConstants.{PORTS};
 ghost use Rattle.fx_code.specs.Inputs.{IsMoment, word_at};
 ghost use Rattle.fx_code.specs.Run.{outputs_at};
 ghost use Rattle.fx_machine.specs.Moments.{StandsAfter};
@@ -13,7 +14,7 @@ ghost use Rattle.fx_sim.specs.Simulation.{simulation};
 use crate::fault::SampleFault;
 use crate::moment::read_moment;
 use crate::record::{next_record, text_reader};
-use crate::text::put_line;
+use crate::text::Lines;
 use csv::ByteRecord;
 use fx_code::{Program, words_read_no_later_inputs};
 use fx_eqs::PORTS;
@@ -25,18 +26,19 @@ fn put_moment(
     machine: &mut Machine<'_>,
     input: &[i64],
     output: &mut [i64],
-    text: &mut Vec<u8>,
+    lines: &mut Lines,
 ) -> Result<(), AllocError>
     requires input { IsMoment machine.old.program input.now }
     requires output { length output.old ≡ length machine.old.program.outputs }
+    requires few { length output.old ≤ PORTS }
     ensures stands { (p : Code) (list : List (List ℤ)) → StandsAfter machine.old p list →
         StandsAfter machine.new p (list ++ input.now ∷ []) }
     ensures output { (p : Code) (list : List (List ℤ)) → StandsAfter machine.old p list →
         output.new ≡ outputs_at p (word_at (list ++ input.now ∷ [])) (length list) }
-    ensures line { OnOk result (text.new.items ≡ text.old.items ++ line_of output.new) }
+    ensures line { OnOk result (lines.new ≡ lines.old ++ line_of output.new) }
 {
     machine.step(input, output);
-    put_line(text, output)
+    lines.put(output)
 }
 
 /// The text of a program's run on samples: for each record one line, the output words in decimal, joined by commas and
@@ -59,14 +61,14 @@ pub fn simulate(alloc: Global, program: &Program, samples: &[u8]) -> Result<Vec<
     let mut results = [0i64; PORTS];
     let input = &mut words[..program.inputs()];
     let output = &mut results[..program.outputs().len()];
-    let mut text = Vec::new(alloc);
+    let mut lines = Lines::new(alloc);
     let mut row = ByteRecord::new(alloc);
     let mut reader = text_reader(alloc, samples);
     let mut number = 0u64;
     while next_record(&mut reader, &mut row)? {
         number += 1;
         read_moment(program, number, &row, input)?;
-        put_moment(&mut machine, input, output, &mut text)?;
+        put_moment(&mut machine, input, output, &mut lines)?;
     }
-    Ok(text)
+    Ok(lines.into_text())
 }

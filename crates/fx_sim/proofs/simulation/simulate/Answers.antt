@@ -11,7 +11,7 @@ returns-in_err-read_moment c =
     let found = c.in_ok-next_record.ensures.found c.if-branch.true in
     rw (p.1, p.2)
     (fails c.args.program.now c.args.samples.now c.loop-reader.machine c.loop-reader.reader
-    c.next_record.new.reader c.loop-reader.number c.loop-reader.text.items
+    c.next_record.new.reader c.loop-reader.number c.loop-reader.lines
     (fields_of c.next_record.new.row) c.in_err-read_moment.field-0.0 c.loop-reader.invariant.between_records
     found c.in_err-read_moment.ensures.fault)
 
@@ -34,7 +34,7 @@ loop-reader-preserved c =
       )
           (goes_on c.words_read_no_later_inputs.ensures c.args.program.now c.args.samples.now
           c.loop-reader.machine c.put_moment.new.machine c.loop-reader.reader c.next_record.new.reader
-          c.loop-reader.number c.loop-reader.text.items
+          c.loop-reader.number c.loop-reader.lines
           (fields_of c.next_record.new.row) c.read_moment.new.input inv.between_records stands found
           c.in_ok-read_moment.ensures.ok
           (c.in_ok-put_moment.ensures.stands c.args.program.now list inv.between_records.ran));
@@ -42,6 +42,6 @@ loop-reader-preserved c =
 
 pub returns : goal.returns
 returns c =
-    done c.args.program.now c.args.samples.now c.loop-reader.machine c.loop-reader.reader c.loop-reader.number
-    c.loop-reader.text.items c.loop-reader.invariant.between_records
-    (c.in_ok-next_record.ensures.none c.if-branch.false)
+    rw c.into_text.ensures (done c.args.program.now c.args.samples.now c.loop-reader.machine c.loop-reader.reader c.loop-reader.number
+    c.loop-reader.lines c.loop-reader.invariant.between_records
+    (c.in_ok-next_record.ensures.none c.if-branch.false))

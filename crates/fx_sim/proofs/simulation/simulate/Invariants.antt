@@ -10,5 +10,5 @@ abbrev pub invariant-loop-reader : goal.invariant-loop-reader
 invariant-loop-reader l = record {
   input : length l.input ≡ length l.program.inputs;
   output : length l.output ≡ length l.program.outputs;
-  between_records : BetweenRecords l.program l.samples l.machine l.reader l.number l.text.items;
+  between_records : BetweenRecords l.program l.samples l.machine l.reader l.number l.lines;
 }
