@@ -113,7 +113,7 @@ outputs_counted m p (coefficients.Lattice k v) h = sym h.1
 
 -- ---- outputs with their rows
 
-entry_of : OutputFormat → OutputEntry
+unfoldable pub entry_of : OutputFormat → OutputEntry
 entry_of o = record { width = o.width; low = o.low; error = o.error }
 
 count_entries : (os : List OutputFormat) → length (map entry_of os) ≡ length os
@@ -340,10 +340,10 @@ filter_read t f h =
     (settings_read form t settings chosen) one near)
 
 -- the parts of a filter as a table gives them
-parts_of : Filter → Ports
+unfoldable pub parts_of : Filter → Ports
 parts_of f = record { inputs = record { low = f.input_low; formats = f.inputs }; outputs = map entry_of f.outputs }
 
-same_filter : (t : Members) (f : Filter) → Describes t f → assembled (parts_of f) f.coefficients f.settings ≡ f
+pub same_filter : (t : Members) (f : Filter) → Describes t f → assembled (parts_of f) f.coefficients f.settings ≡ f
 unfolding assembled parts_of
 same_filter t f d =
     let entries = map entry_of f.outputs in

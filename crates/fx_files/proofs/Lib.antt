@@ -1,6 +1,7 @@
 pub mod AssembledFits
 pub mod CutLists
 pub mod Examples
+pub mod FilterOfSections
 pub mod HeldChoices
 pub mod HeldCoefficients
 pub mod HeldFilter

@@ -8,6 +8,7 @@ pub mod Head
 pub mod Holds
 pub mod Inside
 pub mod Lists
+pub mod Plan
 pub mod Ports
 pub mod Reading
 pub mod Settings

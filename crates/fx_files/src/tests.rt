@@ -1,4 +1,7 @@
-use crate::{Filter, FilterFault, Form, Key, Structure, read_filter};
+ghost use Rattle.std.specs.Prelude.{IfSome};
+ghost use Rattle.fx_files.specs.Plan.{PlanFits, SectionsFit};
+
+use crate::{Filter, FilterFault, Form, InputFormat, Key, Plan, Structure, read_filter};
 use fx_nums::{Den, Frac};
 use std::alloc::{AllocError, Global};
 use std::process::Abort;
@@ -238,4 +241,65 @@ fn each_form_is_read(rt: HostRuntime) {
             Err(fault) => panic!(&rt; "{lines}: {fault:?}"),
         }
     }
+}
+
+// Half of the input, and a tenth of the output before.
+#[tactic(auto, using(crate::proofs::FilterOfSections::one_section_fits))]
+fn one_section() -> Option<[Frac; 6]>
+    ensures { IfSome result SectionsFit }
+{
+    let half = Frac::new(5, Den::Ten(1))?;
+    let tenth = Frac::new(-1, Den::Ten(1))?;
+    let zero = Frac::zero();
+    Some([half, zero, zero, Frac::one(), tenth, zero])
+}
+
+fn one_plan() -> Plan
+    ensures { PlanFits result }
+{
+    Plan {
+        structure: Structure::Df1,
+        input_low: -2,
+        input: InputFormat {
+            width: 12,
+            bound: 100,
+        },
+        width: 16,
+        low: 3,
+        error: Frac::one(),
+        accumulator: 32,
+        word: 24,
+        guard: 4,
+        fraction: 14,
+        length: 256,
+    }
+}
+
+const SAME_VALUES: &str =
+    "form = \"sos\"\nsections = [[\"0.5\", 0, 0, 1, \"-0.1\", 0]]\nstructure = \"df1\"\ninput_low = -2\ninputs = [{ width = 12, bound = 100 }]\noutputs = [{ width = 16, low = 3, error = 1 }]\naccumulator = 32\nword = 24\nguards = [4]\nfractions = [14]\nlengths = [256]\n";
+
+fn check_same(rt: &impl Abort, filter: &Filter, read: &Filter) {
+    assert_eq!(rt; filter.form(), Form::Sos);
+    assert_eq!(rt; filter.structure(), read.structure());
+    assert_eq!(rt; filter.input_low(), read.input_low());
+    assert_eq!(rt; filter.inputs(), read.inputs());
+    assert_eq!(rt; filter.outputs(), read.outputs());
+    assert_eq!(rt; filter.accumulator(), read.accumulator());
+    assert_eq!(rt; filter.word(), read.word());
+    assert_eq!(rt; filter.guards(), read.guards());
+    assert_eq!(rt; filter.fractions(), read.fractions());
+    assert_eq!(rt; filter.lengths(), read.lengths());
+    assert_eq!(rt; filter.coefficients(), read.coefficients());
+    assert_eq!(rt; filter.eqs().terms(), read.eqs().terms());
+}
+
+#[test]
+fn sections_give_the_filter_of_a_file(rt: HostRuntime) -> Result<(), Fail> {
+    let section = one_section().ok_or("in range")?;
+    let filter = Filter::of_sections(rt.alloc(), &section, one_plan())?;
+    match read_filter(rt.alloc(), SAME_VALUES.as_bytes()) {
+        Ok(read) => check_same(&rt, &filter, &read),
+        Err(fault) => panic!(&rt; "{fault:?}"),
+    }
+    Ok(())
 }
