@@ -108,29 +108,38 @@ The two branches add up to an all-pass. The output has one bit more than the inp
     "k_weighting": """\
 K-weighting of a loudness meter at 48 kHz: the shelf for the head, then the high-pass (RLB), with the
 coefficients that ITU-R BS.1770 prints in its tables 1 and 2. Nothing was computed.
-The output counts in steps four times as fine.""",
+The output counts in steps four times as fine.
+What it needs: the high-pass has both poles at 0.995, so what is rounded in its row comes back some
+40000 times. 15 guards bring that below 10 steps; 16 would need words of more than 32 bits.""",
     "a_weighting": """\
 A-weighting of a sound level meter at 48 kHz:
 G s^4 w4^2 / ((s + w1)^2 (s + w2) (s + w3) (s + w4)^2), w = 2 pi f with the pole frequencies that
 follow from IEC 61672-1, 20.598997, 107.65265, 737.86223 and 12194.217 Hz, by the bilinear rule
-s = 96000 (z - 1) / (z + 1), in sections of (w1, w1), (w2, w3), (w4, w4); G makes the gain 1 at 1 kHz.
-It goes as far as that rule does: its gain is below that of the formula by 0.1 dB at 5 kHz, 0.5 dB at
-8 kHz, 1.2 dB at 10 kHz, 2.7 dB at 12.5 kHz and 6.4 dB at 16 kHz.""",
+s = 96000 (z - 1) / (z + 1), a section for each real pole and one for w4 twice; G makes the gain 1 at
+1 kHz. It goes as far as that rule does: its gain is below that of the formula by 0.1 dB at 5 kHz,
+0.5 dB at 8 kHz, 1.2 dB at 10 kHz, 2.7 dB at 12.5 kHz and 6.4 dB at 16 kHz.
+What it needs: sections of first order, as in one section the double pole at 20.6 Hz amplifies
+roundings 140000 times, and in two each pole 370 times; and 12 guards.""",
     "mains_harmonics": """\
 Takes mains hum of 50 Hz and its harmonics 100, 150 and 200 Hz out of a measurement at 1 kHz.
 Each section is a notch of 2 Hz width, (1 - 2 c z^-1 + z^-2) / (1 + t - 2 c z^-1 + (1 - t) z^-2)
 with c = cos(2 pi f / 1000) and t = tan(pi 2 / 1000), divided by 1 + t.
-Input and output count in steps of 2^-8 of the unit that is measured.""",
+Input and output count in steps of 2^-8 of the unit that is measured.
+What it needs: the poles are at 0.994, so four sections have 4096 moments to fade, and 12 guards.""",
     "ecg_band": """\
 Band of an electrocardiogram for monitoring, 0.5 to 40 Hz at 500 Hz: Butterworth high-pass
 s^2 / (s^2 + sqrt(2) s + 1) with s = (z - 1) / ((z + 1) tan(pi 0.5 / 500)), then Butterworth low-pass
 of order 4 as two sections 1 / (s^2 + 2 cos(pi m / 8) s + 1), m = 1 and 3, with
-s = (z - 1) / ((z + 1) tan(pi 40 / 500)).""",
+s = (z - 1) / ((z + 1) tan(pi 40 / 500)).
+What it needs: the high-pass has two poles at 0.9956, so what is rounded in its row comes back some
+25000 times: 16 guards, and coefficients of 30 places.""",
     "yaw_damper": """\
 Yaw damper of an aircraft at 100 Hz: a washout with a time constant of 2 seconds, 2 s / (2 s + 1) with
 s = 200 (z - 1) / (z + 1), lets steady turns pass; then a notch at a structural mode of 6.5 Hz,
 (s^2 + 0.2 s + 1) / (s^2 + 1.2 s + 1) with s = (z - 1) / ((z + 1) tan(pi 6.5 / 100)).
-The yaw rate counts in steps of 2^-6 degrees a second, the output in steps of 2^-8.""",
+The yaw rate counts in steps of 2^-6 degrees a second, the output in steps of 2^-8.
+What it needs: guards count from the input's step, which is four of the output's, and the washout
+has its pole at 0.995: 12 guards and 4096 moments.""",
     "pid": """\
 PID controller at 500 Hz with a leaking integral, and with the rate of the measurement alone, so that
 a new set point gives no kick. Inputs are the set point r and the measurement y:
@@ -149,7 +158,8 @@ millisecond for each step of the command u. With e = exp(-1 / 20) and h = 20 (1 
 angle' = angle + h speed + 0.02 (1 - h) u, speed' = e speed + 0.02 (1 - e) u (u held for 1 ms).
 The measured angle y corrects them by l1 (y - angle) and l2 (y - angle), with both poles at
 p = exp(-0.15): l1 = 1 + e - 2 p, l2 = (p^2 - e (1 - l1)) / h. The outputs are the angle in 16ths of
-an encoder step and the speed in 256ths of a step a millisecond.""",
+an encoder step and the speed in 256ths of a step a millisecond.
+What it needs: guards count from the input's step, and the speed has 8 places more: 12 guards.""",
 }
 
 
@@ -175,23 +185,24 @@ def k_weighting() -> Example:
              "-1.69065929318241", "0.73248077421585"]
     high = ["1", "-2", "1", "1", "-1.99004745483398", "0.99007225036621"]
     return example("k_weighting", {"sections": [shelf, high]},
-                   "--width 16 --bound 16384 --output-width 20 --output-low -2 --error 4")
+                   "--width 16 --bound 16384 --output-width 20 --output-low -2 --error 10 "
+                   "--guards 15 --fractions 30 --lengths 4096")
 
 
 def a_weighting() -> Example:
     poles = ("20.598997", "107.65265", "737.86223", "12194.217")
     w1, w2, w3, w4 = [2 * PI * Decimal(frequency) for frequency in poles]
     scale = Decimal(96000)
-    rows = [bilinear([ZERO, ZERO, ONE], [w1 * w1, 2 * w1, ONE], scale),
-            bilinear([ZERO, ZERO, ONE], [w2 * w3, w2 + w3, ONE], scale),
-            bilinear([w4 * w4, ZERO, ZERO], [w4 * w4, 2 * w4, ONE], scale)]
+    rows = [first_order([ZERO, ONE], [pole, ONE], scale) for pole in (w1, w1, w2, w3)]
+    rows.append(bilinear([w4 * w4, ZERO, ZERO], [w4 * w4, 2 * w4, ONE], scale))
     # The rule gives 1 kHz the gain of the formula at s = i w, with this w^2.
     square = (scale * tangent(PI * 1000 / 48000)) ** 2
     middle = ((square + w2**2) * (square + w3**2)).sqrt()
     gain = square**2 * w4**2 / ((square + w1**2) * middle * (square + w4**2))
-    rows[2][:3] = [entry / gain for entry in rows[2][:3]]
+    rows[4][:3] = [entry / gain for entry in rows[4][:3]]
     return example("a_weighting", sections_of(rows),
-                   "--width 16 --bound 12000 --output-width 18 --output-low -1 --error 4")
+                   "--width 16 --bound 12000 --output-width 18 --output-low -1 --error 4 "
+                   "--guards 12 --fractions 26 --lengths 4096")
 
 
 def mains_harmonics() -> Example:
@@ -201,7 +212,8 @@ def mains_harmonics() -> Example:
         c = cosine(2 * PI * frequency / 1000)
         rows.append([entry / (1 + t) for entry in (ONE, -2 * c, ONE, 1 + t, -2 * c, 1 - t)])
     return example("mains_harmonics", sections_of(rows),
-                   "--width 16 --bound 12000 --output-width 17 --input-low -8 --error 3")
+                   "--width 16 --bound 12000 --output-width 17 --input-low -8 --error 3 "
+                   "--guards 12 --fractions 26 --lengths 4096")
 
 
 def ecg_band() -> Example:
@@ -210,14 +222,15 @@ def ecg_band() -> Example:
         damping = 2 * cosine(PI * m / 8)
         rows.append(bilinear([ONE, ZERO, ZERO], [ONE, damping, ONE], warp(Decimal(40), 500)))
     return example("ecg_band", sections_of(rows), "--width 16 --bound 8000 --output-width 16 --error 4 "
-                   "--guards 4 8 12 --lengths 1024 4096")
+                   "--guards 16 --fractions 30 --lengths 4096")
 
 
 def yaw_damper() -> Example:
     washout = first_order([ZERO, Decimal(2)], [ONE, Decimal(2)], Decimal(200))
     mode = bilinear([ONE, Decimal("0.2"), ONE], [ONE, Decimal("1.2"), ONE], warp(Decimal("6.5"), 100))
     return example("yaw_damper", sections_of([washout, mode]), "--width 14 --bound 6400 "
-                   "--output-width 18 --input-low -6 --output-low -8 --error 2")
+                   "--output-width 18 --input-low -6 --output-low -8 --error 2 "
+                   "--guards 12 --fractions 26 --lengths 4096")
 
 
 def matrices(lists: dict) -> dict:
@@ -260,7 +273,8 @@ def observer() -> Example:
              "C": [[ONE, ZERO], [ZERO, ONE]],
              "D": [[ZERO, ZERO], [ZERO, ZERO]]}
     return example("observer", matrices(lists), "--width 12 16 --bound 2047 16000 "
-                   "--output-width 20 20 --output-low -4 -8 --error 4 4")
+                   "--output-width 20 20 --output-low -4 -8 --error 4 4 "
+                   "--guards 12 --fractions 26 --lengths 256")
 
 
 def examples() -> list:

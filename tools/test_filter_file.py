@@ -564,7 +564,7 @@ class Examples(ToolTest):
 
     def test_they_are_reproduced(self):
         files = sorted(EXAMPLES.glob("*.toml"))
-        self.assertEqual(len(files), 20)
+        self.assertEqual(len(files), 21)
         for file in files:
             table = tomllib.loads(file.read_text(encoding="utf-8"))
             given = {key: table[key] for keys in filter_file.KEYS.values() for key in keys if key in table}
