@@ -23,6 +23,7 @@ use Rattle.fx_words.specs.Words.{FaultlessIsCommand, FaultyIsNone, IsDisallowed,
 use Rattle.fx_words.specs.Words.{CommandsAreWhole, IsWhole}
 use Rattle.fx_words.specs.Words.{found_command, read_of, tool_app, value_of, values_of, verb_app, where_faultless}
 use Rattle.fx_words.specs.Words.{with_operands, with_verbs}
+use Rattle.fx_words.proofs.PlainForm.{clap_agrees}
 use Rattle.fx_words.specs.declared.command.Verb.{Verb}
 use Rattle.fx_words.specs.declared.command.Verb.TheVariants.{Check, Gain, Make, Report, Show, Simulate}
 
@@ -192,9 +193,9 @@ none_where_faulty [] found h = absurd (h refl)
 none_where_faulty (k ∷ ks) found h = refl
 
 pub faulty_is_none : FaultyIsNone
-unfolding command_of read_of
-faulty_is_none words plain h =
-    ap (λ p. option_or p (read_of words)) plain
+unfolding read_of
+faulty_is_none words h =
+    clap_agrees words
     ∙ none_where_faulty (fault_of tool_app words) (option_and_then found_command (subcommand_of tool_app words)) h
 
 -- ---- the plain form

@@ -100,10 +100,14 @@ abbrev pub FaultlessIsCommand : Type 0
 FaultlessIsCommand = (words : List (List ℕ)) → fault_of tool_app words ≡ [] →
     IsSome (command_of words) ⊎ IsDisallowed words
 
--- Words that are not in the plain form and of which clap states a fault are no command.
+-- Words of which clap states a fault are no command.
 abbrev pub FaultyIsNone : Type 0
-FaultyIsNone = (words : List (List ℕ)) → plain_of words ≡ None → fault_of tool_app words ≢ [] → command_of words ≡ None
+FaultyIsNone = (words : List (List ℕ)) → fault_of tool_app words ≢ [] → command_of words ≡ None
 
 -- A command has what was given for each of its operands, and allows it.
 abbrev pub CommandsAreWhole : Type 0
 CommandsAreWhole = (words : List (List ℕ)) → IsWhole (command_of words)
+
+-- What words ask for is what clap reads of them, also in the plain form.
+abbrev pub ClapAgrees : Type 0
+ClapAgrees = (words : List (List ℕ)) → command_of words ≡ read_of words
