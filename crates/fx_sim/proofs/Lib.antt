@@ -4,6 +4,8 @@ pub mod Digits
 pub mod FieldLaws
 pub mod LinesSoFar
 pub mod Moments
+pub mod PlainFields
+pub mod PlainLines
 pub mod RecordsLeft
 pub mod WordsSoFar
 pub mod Written

@@ -42,7 +42,7 @@ found_ok e None x h = absurd cc
 
 -- ---- words
 
-word_fits : (w : ℕ) (z : ℤ) → is_word w z ≡ true → FitsBits w z
+pub word_fits : (w : ℕ) (z : ℤ) → is_word w z ≡ true → FitsBits w z
 word_fits w z h =
     let (low, high) = and_parts (le_z (neg_ℤ (pos (2 ^ (w - 1)))) z) (lt_z z (pos (2 ^ (w - 1)))) h in
     record { low = le_z_yes (rw low tt); high = lt_z_yes (rw high tt) }
@@ -154,7 +154,7 @@ moment_is number widths fields words h =
     (Columns number (length fields) (length widths)) h in
     words_are number 1 widths fields words (eqb-true (length fields) (length widths) same) read
 
-moment_read : (number : ℕ) (widths : List ℕ) (fields : List (List ℕ)) (words : List ℤ) →
+pub moment_read : (number : ℕ) (widths : List ℕ) (fields : List (List ℕ)) (words : List ℤ) →
     IsRecordOf widths fields words → moment_in number widths fields ≡ Ok words
 unfolding moment_in
 moment_read number widths fields words r =

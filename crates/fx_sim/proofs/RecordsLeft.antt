@@ -128,7 +128,7 @@ fewer_left cfg s (c ∷ rest) r none e = elim (cases_Bool (is_end (step cfg s c)
 ]
 
 -- two counts that are large enough give the same records
-same_records : (n m : ℕ) (cfg : Config) (s : State) (xs : List ℕ) → ends_at_end s ≡ false → length xs < n →
+pub same_records : (n m : ℕ) (cfg : Config) (s : State) (xs : List ℕ) → ends_at_end s ≡ false → length xs < n →
     length xs < m → records_from cfg n s xs ≡ records_from cfg m s xs
 unfolding records_from
 same_records zero m cfg s xs none a b = absurd (omega arith)

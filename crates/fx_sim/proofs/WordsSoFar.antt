@@ -9,11 +9,8 @@ use Rattle.fx_sim.specs.declared.fault.SampleFault.{SampleFault}
 use Rattle.fx_math.specs.Faults.{◌>>=◌}
 use Rattle.fx_math.specs.Answers.{IsFault, Fails}
 use Rattle.fx_math.proofs.Answers.{fails_through}
+use Rattle.fx_sim.specs.Between.{with_front}
 use Rattle.fx_sim.specs.Samples.{is_memory, word_in, words_in}
-
-abbrev pub with_front : {A : Type 0} → List A → Result (List A) SampleFault → Result (List A) SampleFault
-with_front front (Ok xs) = Ok (front ++ xs)
-with_front front (Err fault) = Err fault
 
 -- a fault goes through what was read before
 fault_behind : {A : Type 0} (memory : Bool) (e : SampleFault) (front : List A)

@@ -5,6 +5,7 @@ mod fault;
 mod field;
 mod laws;
 mod moment;
+mod plain;
 mod record;
 mod simulation;
 #[cfg(test)]

@@ -28,7 +28,7 @@ use fx_code::Program;
 use fx_math::GREATEST_WIDTH;
 
 // Whether a number is one of this many bits in two's complement.
-fn is_word(width: u8, number: i64) -> bool
+pub fn is_word(width: u8, number: i64) -> bool
     requires low { 1 ≤ width }
     requires high { width ≤ GREATEST_WIDTH }
     ensures { result ≡ is_word width number }

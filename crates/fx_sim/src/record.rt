@@ -14,7 +14,6 @@ use std::alloc::Global;
 pub fn text_reader(alloc: Global, text: &[u8]) -> Reader<&[u8]>
     ensures stands { Stands result }
     ensures records { records_left result ≡ records default_config (strip_bom text.now) }
-    ensures few { length (records_left result) ≤ length text.now }
 {
     ReaderBuilder::new()
         .has_headers(false)

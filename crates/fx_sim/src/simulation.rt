@@ -1,11 +1,13 @@
 // Runs of a program on samples.
 
-ghost use Rattle.std.specs.Prelude.{◌≡◌, ◌≤◌, ◌++◌, ◌∷◌, [], List, ℤ, length, OnOk};
+ghost use Rattle.std.specs.Prelude.{◌≡◌, ◌≤◌, ◌++◌, ◌∷◌, [], List, ℤ, length, IfOk, OnOk};
+ghost use Rattle.csv.specs.Reading.{default_config, records, strip_bom};
 ghost use Rattle.fx_code.specs.Code.{Code, IsWhole};
 ghost use Rattle.fx_eqs.specs.declared.limits.TheConstants.{PORTS};
 ghost use Rattle.fx_code.specs.Inputs.{IsMoment, word_at};
 ghost use Rattle.fx_code.specs.Run.{outputs_at};
 ghost use Rattle.fx_machine.specs.Moments.{StandsAfter};
+ghost use Rattle.fx_sim.specs.Between.{StandsBetween};
 ghost use Rattle.fx_sim.specs.Output.{line_of};
 ghost use Rattle.fx_math.specs.Answers.{Gives};
 ghost use Rattle.fx_sim.specs.Samples.{is_memory};
@@ -13,6 +15,7 @@ ghost use Rattle.fx_sim.specs.Simulation.{simulation};
 
 use crate::fault::SampleFault;
 use crate::moment::read_moment;
+use crate::plain::read_plain;
 use crate::record::{next_record, text_reader};
 use crate::text::Lines;
 use csv::ByteRecord;
@@ -41,6 +44,34 @@ fn put_moment(
     lines.put(output)
 }
 
+// Runs the plain lines at the front of samples. Gives their count, and the text from the line feed of the last one on.
+fn run_plain_lines<'t>(
+    program: &Program,
+    machine: &mut Machine<'_>,
+    input: &mut [i64],
+    output: &mut [i64],
+    lines: &mut Lines,
+    samples: &'t [u8],
+) -> Result<(u64, &'t [u8]), AllocError>
+    requires begins { StandsAfter machine.old program.now [] }
+    requires none { lines.old ≡ [] }
+    requires input { length input.old ≡ length program.now.inputs }
+    requires output { length output.old ≡ length program.now.outputs }
+    requires few { length output.old ≤ PORTS }
+    ensures { IfOk result (λ r. StandsBetween program.now samples.now machine.new
+        (records default_config (strip_bom r.1.now)) r.0 lines.new) }
+{
+    words_read_no_later_inputs();
+    let mut number = 0u64;
+    let mut rest = samples;
+    while let Some(behind) = read_plain(program, rest, input) {
+        put_moment(machine, input, output, lines)?;
+        number += 1;
+        rest = behind;
+    }
+    Ok((number, rest))
+}
+
 /// The text of a program's run on samples: for each record one line, the output words in decimal, joined by commas and
 /// ended by a line feed.
 ///
@@ -50,7 +81,7 @@ fn put_moment(
 ///
 /// The error is the first fault in the order of the records: of one record the count of its fields comes first, then
 /// column by column. `NoMemory` is no fault of the samples.
-#[tactic(auto, using(crate::proofs::BetweenRecords::begins, crate::proofs::BetweenRecords::front_of_ports))]
+#[tactic(auto, using(crate::proofs::BetweenRecords::front_of_ports))]
 pub fn simulate(alloc: Global, program: &Program, samples: &[u8]) -> Result<Vec<u8>, SampleFault>
     requires { IsWhole program.now }
     ensures { Gives is_memory (λ text. text.items) result (simulation program.now samples.now) }
@@ -63,8 +94,15 @@ pub fn simulate(alloc: Global, program: &Program, samples: &[u8]) -> Result<Vec<
     let output = &mut results[..program.outputs().len()];
     let mut lines = Lines::new(alloc);
     let mut row = ByteRecord::new(alloc);
-    let mut reader = text_reader(alloc, samples);
-    let mut number = 0u64;
+    let (mut number, rest) = run_plain_lines(
+        program,
+        &mut machine,
+        input,
+        output,
+        &mut lines,
+        samples,
+    )?;
+    let mut reader = text_reader(alloc, rest);
     while next_record(&mut reader, &mut row)? {
         number += 1;
         read_moment(program, number, &row, input)?;

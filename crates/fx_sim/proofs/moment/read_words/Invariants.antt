@@ -1,7 +1,7 @@
 use Rattle.std.proofs.Common.{◌≡◌, ◌+◌, drop, take}
 use Rattle.csv.specs.Records.{fields_of}
 use Rattle.fx_sim.specs.Samples.{words_in}
-use Rattle.fx_sim.proofs.WordsSoFar.{with_front}
+use Rattle.fx_sim.specs.Between.{with_front}
 use Rattle.fx_sim.proofs.moment.read_words.Given as goal
 
 abbrev pub invariant-loop-j : goal.invariant-loop-j
