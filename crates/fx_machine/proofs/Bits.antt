@@ -1,9 +1,11 @@
 -- Numbers of so many bits, and residues.
 use Rattle.std.proofs.Common.{◌≡◌, ℕ, zero, suc, ◌+◌, ◌*◌, ◌-◌, ◌^◌, ◌<◌, ◌≤◌, ℤ, pos, negsuc, ◌+ℤ◌, ◌-ℤ◌, ◌≤ℤ◌}
-use Rattle.std.proofs.Common.{◌<ℤ◌, ◌*ℤ◌, false, unsigned_abs, arith, lit<, ap, ◌∙◌}
+use Rattle.std.proofs.Common.{◌<ℤ◌, ◌*ℤ◌, ◌||◌, nat_le, false, unsigned_abs, inl, inr, arith, lit<, ap, ◌∙◌, neg_ℤ, sym, subst, true}
 use Rattle.std.specs.Int.{int_rem_euclid}
 use Rattle.std.proofs.Math.Nat.{pow-succ'}
-use Rattle.std.proofs.lemmas.Nat.{pow_pos}
+use Rattle.std.specs.Int.Bits.{bit_or}
+use Rattle.std.proofs.lemmas.Nat.{pow_pos, or_lt, le_or_l, le_or_r}
+use Rattle.std.proofs.lemmas.Bool.{cases_lt, cases_Bool}
 use Rattle.std.proofs.lemmas.Int.{ints}
 use Rattle.std.proofs.lemmas.Bool.Decides.{nat_tests}
 use Rattle.fx_math.specs.Residue.{wrap, FitsBits}
@@ -11,7 +13,7 @@ use Rattle.fx_math.specs.Division.{floor_div}
 use Rattle.fx_math.proofs.Division.{floor_below, floor_above}
 use Rattle.fx_math.proofs.Residue.{wrap_fits, residue_congruence}
 use Rattle.std.proofs.Math.Nat.{pow-le-pow_right}
-use Rattle.fx_machine.specs.Prepared.{half_of, is_outside}
+use Rattle.fx_machine.specs.Prepared.{half_of, is_beyond, is_outside}
 
 pub wrap_at_half : (w : ℕ) (z : ℤ) → 1 ≤ w →
     int_rem_euclid (z +ℤ pos (2 ^ (w - 1))) (pos (2 ^ (w - 1)) +ℤ pos (2 ^ (w - 1))) -ℤ pos (2 ^ (w - 1))
@@ -54,10 +56,47 @@ wrap_is_bits (suc w) z h =
     let high = residue_high (z +ℤ pos (2 ^ (suc w - 1))) (2 ^ suc w) some in
     record { low = omega (arith, ints, low); high = omega (arith, ints, d, high) }
 
-pub wrap_small : (w : ℕ) (z : ℤ) → 1 ≤ w → unsigned_abs (wrap w z) ≤ half_of w
-wrap_small w z h = let f = wrap_is_bits w z h in omega (arith, ints, f.low, f.high)
+-- z is one of the numbers of which so many lie below 0 and as many from 0 on
+pub record IsWithin (half : ℕ) (z : ℤ) : Type 0 where
+  pub low : neg_ℤ (pos half) ≤ℤ z
+  pub high : z <ℤ pos half
+
+pub within_bits : (w : ℕ) (z : ℤ) → FitsBits w z → IsWithin (half_of w) z
+within_bits w z f = record { low = f.low; high = f.high }
+
+pub within_small : (half : ℕ) (z : ℤ) → IsWithin half z → unsigned_abs z ≤ half
+within_small half (pos n) f = omega (arith, ints, f.high)
+within_small half (negsuc n) f = omega (arith, ints, f.low)
+
+pub zero_fits : (w : ℕ) → FitsBits w (pos 0)
+zero_fits w = let some : 0 < half_of w = pow_pos (w - 1) in
+    record { low = omega (arith, ints, some); high = omega (arith, ints, some) }
+
+-- twice the half
+pub twice_half : (w : ℕ) → 1 ≤ w → half_of w + half_of w ≡ 2 ^ w
+twice_half zero h = absurd (omega arith)
+twice_half (suc w) h =
+    let d : 2 ^ suc w ≡ 2 * 2 ^ (suc w - 1) = pow-succ' 2 w ∙ ap (λ n. 2 * 2 ^ n) (omega arith) in
+    omega (arith, d)
+
+pub half_small : (w k : ℕ) → w ≤ k + 1 → half_of w ≤ 2 ^ k
+half_small w k h = let e : w - 1 ≤ k = omega arith in pow-le-pow_right (lit< tt) e
+
+-- a sum of bits reaches a power of two where one of its parts does
+pub or_reaches : (k a b : ℕ) → nat_le (2 ^ k) (bit_or a b) ≡ (nat_le (2 ^ k) a || nat_le (2 ^ k) b)
+or_reaches k a b =
+    elim (cases_lt a (2 ^ k)) [
+      | inl small ↦ elim (cases_lt b (2 ^ k)) [
+        | inl less ↦ let both : bit_or a b < 2 ^ k = or_lt k a b small less in grind (arith, nat_tests)
+        | inr more ↦ let one : b ≤ bit_or a b = le_or_r a b in grind (arith, nat_tests)
+      ]
+      | inr big ↦ let one : a ≤ bit_or a b = le_or_l a b in grind (arith, nat_tests)
+    ]
 
 -- a number without its low bits is not much larger
+pub high_near : (m : ℕ) (z : ℤ) → 0 < m → unsigned_abs (floor_div z m *ℤ pos m) ≤ unsigned_abs z + m
+high_near m z some = omega (arith, ints, floor_below z m some, floor_above z m some)
+
 pub high_small : (bits : ℕ) (z : ℤ) → bits ≤ 64 → unsigned_abs z ≤ 2 ^ 126 + 2 ^ 63 →
     unsigned_abs (floor_div z (2 ^ bits) *ℤ pos (2 ^ bits)) < 2 ^ 127
 high_small bits z h small =
@@ -73,3 +112,21 @@ wrap_is bits z half high low h e =
     let same : high ≡ floor_div (z +ℤ pos (2 ^ (bits - 1))) (2 ^ bits) *ℤ pos (2 ^ bits) =
     e ∙ ap (λ x. floor_div (z +ℤ x) (2 ^ bits) *ℤ pos (2 ^ bits)) h in
     omega (arith, ints, same, residue_congruence bits z low)
+
+-- a test of a raised number is one of its bits
+pub at_half : (half bits raised : ℕ) (z : ℤ) → half ≡ half_of bits → 1 ≤ bits →
+    nat_le (half + half) raised ≡ is_beyond half z → nat_le (2 ^ bits) raised ≡ is_outside bits z
+at_half half bits raised z e low h =
+    ap (λ (n : ℕ). nat_le n raised) (sym (twice_half bits low)) ∙ ap (λ (n : ℕ). nat_le (n + n) raised) (sym e) ∙ h
+    ∙ ap (λ (n : ℕ). is_beyond n z) e
+
+-- the low bits of a number are the number exactly where it is one of so many bits
+pub inside_where : (w : ℕ) (z : ℤ) → 1 ≤ w → wrap w z ≡ z → is_outside w z ≡ false
+inside_where w z h same = inside_from w z (subst (FitsBits w) same (wrap_is_bits w z h))
+
+pub outside_where : (w : ℕ) (z : ℤ) → 1 ≤ w → (wrap w z ≡ z → ⊥) → is_outside w z ≡ true
+outside_where w z h other =
+    elim (cases_Bool (is_outside w z)) [
+      | inl out ↦ out
+      | inr inside ↦ absurd (other (wrap_inside w z h inside))
+    ]

@@ -1,6 +1,7 @@
 mod Adding
 mod Bits
 mod Following
+mod Giving
 mod Marking
 mod Reaching
 mod Running

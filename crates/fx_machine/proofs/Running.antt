@@ -1,26 +1,30 @@
 -- The rows of a program that keeps its limits can be computed, and leave the words within their bits.
 use Rattle.fx_machine.specs.declared.places.TheConstants.{FIRST_INPUT, FIRST_OLD, WORD_COUNT}
 use Rattle.fx_code.specs.declared.limits.TheConstants.{CODE_ROWS, LONGEST_SHIFT}
-use Rattle.std.proofs.Common.{◌≡◌, ◌≢◌, ℕ, zero, suc, ◌+◌, ◌*◌, ◌-◌, ◌^◌, ◌<◌, ◌≤◌, ℤ, pos, unsigned_abs}
-use Rattle.std.proofs.Common.{nat_lt, Bool, true, false, cond, List, [], ◌∷◌, length, map, All, slice_index_or}
+use Rattle.std.proofs.Common.{◌≡◌, ◌≢◌, ℕ, zero, suc, ◌+◌, ◌*◌, ◌-◌, ◌^◌, ◌<◌, ◌≤◌, ℤ, pos, negsuc, unsigned_abs}
+use Rattle.std.proofs.Common.{nat_lt, Bool, true, false, ◌&&◌, refl, subst, ◌*ℤ◌, cond, List, [], ◌∷◌, length, map, All, slice_index_or}
 use Rattle.std.proofs.Common.{slice_set, inl, inr, sym, ap, ◌∙◌, arith, lit<, lit≤, add-one, get_or-set_same}
 use Rattle.std.proofs.Common.{get_or-set_other}
 use Rattle.std.specs.Int.{bit_at}
 use Rattle.std.proofs.Math.Nat.{pow-le-pow_right, mul-le-mul_left}
 use Rattle.std.proofs.lemmas.Nat.{mul-le}
-use Rattle.std.proofs.lemmas.Bool.{cases_lt, cases_eq}
+use Rattle.std.proofs.lemmas.Bool.{cases_lt, cases_eq, false≢true, eqb-true}
+use Rattle.std.proofs.lemmas.Int.{ints}
 use Rattle.std.proofs.lemmas.Bool.Decides.{nat_tests}
 use Rattle.std.proofs.lemmas.List.{get_or-map, get_or_past, length-map, length-set}
 use Rattle.std.proofs.lemmas.List.Elements.{All-map, All-weaker, All-tail}
 use Rattle.std.proofs.lemmas.List.Sums.{get_or-le-sum_by}
-use Rattle.fx_math.specs.Residue.{wrap}
-use Rattle.fx_machine.proofs.Bits.{wrap_small}
+use Rattle.fx_math.specs.Residue.{wrap, FitsBits}
+use Rattle.fx_machine.proofs.Bits.{IsWithin, wrap_is_bits, within_bits, within_small, zero_fits, half_small}
 use Rattle.fx_eqs.specs.declared.limits.TheConstants.{PORTS}
 use Rattle.fx_code.specs.Code.{Row, Code, row_at, bare, half_place, constant_of, weight}
 use Rattle.fx_code.specs.Fits.{RowFits, SourceFits, CodeFits}
 use Rattle.fx_code.specs.Limits.{term_count}
-use Rattle.fx_machine.specs.Prepared.{place_of, word_in, half_of, limit_of, reach_of, greatest, scaled, plan_of}
-use Rattle.fx_machine.specs.Prepared.{plan_for, magnitudes, word_of, Reaches, CanRun}
+use Rattle.fx_machine.specs.Prepared.{place_of, word_in, half_of, limit_of, code_term_at, is_one}
+use Rattle.fx_machine.specs.Prepared.{is_copy, sum_kind, greatest, scaled, Plan, plan_of, plan_for, magnitudes}
+use Rattle.fx_machine.specs.Prepared.{word_of, first_place, IsCopy, Suits, CanRun}
+use Rattle.fx_machine.specs.declared.prepared.Kind.{Kind}
+use Rattle.fx_machine.specs.declared.prepared.Kind.TheVariants.{Copy}
 use Rattle.fx_machine.specs.Standing.{rows_done, WordsFit, ArePrepared, HasBits}
 use Rattle.fx_machine.specs.declared.prepared.PreparedRow.{PreparedRow}
 use Rattle.fx_machine.specs.declared.prepared.ScaledTerm.{ScaledTerm}
@@ -37,29 +41,30 @@ place_below n inputs (Old i) a b h = omega arith
 place_below n inputs (In j) a b h = omega arith
 
 -- a word that is read lies within its limit
+source_within : (p : Code) (words : List ℤ) (n : ℕ) (from : Read) → WordsFit p words → n < length p.rows →
+    SourceFits n (length p.inputs) from → IsWithin (limit_of p from) (word_in words (place_of from))
+source_within p words n (Now i) f h s = within_bits _ _ (f.now i (omega arith))
+source_within p words n (Old i) f h s =
+    elim (cases_lt i (length p.rows)) [
+      | inl here ↦ within_bits _ _ (f.old i here)
+      | inr past ↦ let e : word_in words (FIRST_OLD + i) ≡ pos 0 = f.missing i past s in rw e (within_bits _ _ (zero_fits _))
+    ]
+source_within p words n (In j) f h s = within_bits _ _ (f.input j s)
+
 source_small : (p : Code) (words : List ℤ) (n : ℕ) (from : Read) → WordsFit p words → n < length p.rows →
     SourceFits n (length p.inputs) from → unsigned_abs (word_in words (place_of from)) ≤ limit_of p from
-source_small p words n (Now i) f h s = f.now i (omega arith)
-source_small p words n (Old i) f h s =
-    elim (cases_lt i (length p.rows)) [
-      | inl here ↦ f.old i here
-      | inr past ↦ let e : word_in words (FIRST_OLD + i) ≡ pos 0 = f.missing i past s in rw e (omega arith)
-    ]
-source_small p words n (In j) f h s = f.input j s
-
-half_small : (bits : ℕ) → bits ≤ 32 → half_of bits ≤ 2 ^ 31
-half_small bits h = let e : bits - 1 ≤ 31 = omega arith in pow-le-pow_right (lit< tt) e
+source_small p words n from f h s = within_small _ _ (source_within p words n from f h s)
 
 limit_small : (p : Code) (n : ℕ) (from : Read) → CodeFits p → n < length p.rows →
     SourceFits n (length p.inputs) from → limit_of p from ≤ 2 ^ 31
-limit_small p n (Now i) f h s = half_small _ (f.rows i _ (omega arith)).width.high
+limit_small p n (Now i) f h s = half_small _ 31 (f.rows i _ (omega arith)).width.high
 limit_small p n (Old i) f h s =
     elim (cases_lt i (length p.rows)) [
-      | inl here ↦ half_small _ (f.rows i _ here).width.high
+      | inl here ↦ half_small _ 31 (f.rows i _ here).width.high
       | inr past ↦ let e : row_at p i ≡ record { width = 0; shift = 0; terms = [] } =
           get_or_past p.rows i _ past in rw e (lit≤ tt)
     ]
-limit_small p n (In j) f h s = half_small _ (f.input_widths j 0 s).high
+limit_small p n (In j) f h s = half_small _ 31 (f.input_widths j 0 s).high
 
 -- ---- magnitudes
 
@@ -94,26 +99,90 @@ greatest_small p (t ∷ ts) h =
           (unsigned_abs (weight x) < 2 ^ 62) × (limit_of p x.from ≤ 2 ^ 31)) t ts h),
     )
 
-reaches : (bits sum big : ℕ) → bits ≤ 64 → sum ≤ big → big < 2 ^ 126 → Reaches (reach_of bits big) bits sum
-unfolding reach_of
-reaches bits sum big b h k =
+-- ---- kinds
+
+both_true : (a b : Bool) → (a && b) ≡ true → (a ≡ true) × (b ≡ true)
+both_true true b h = (refl, h)
+both_true false b h = absurd (false≢true h)
+
+is_one_from : (z : ℤ) → is_one z ≡ true → z ≡ pos 1
+is_one_from (pos n) h = let e : n ≡ 1 = grind (arith, nat_tests) in ap pos e
+is_one_from (negsuc n) h = absurd (false≢true h)
+
+one_term : (ts : List CodeTerm) → length ts ≡ 1 → ts ≡ code_term_at ts 0 ∷ []
+one_term [] h = absurd (omega (arith, h))
+one_term (t ∷ []) h = refl
+one_term (t ∷ u ∷ us) h = absurd (omega (arith, h))
+
+one_weight : (coef : ℤ) (left : ℕ) → coef ≡ pos 1 → left ≡ 0 → coef *ℤ pos (2 ^ left) ≡ pos 1
+one_weight coef left c l = rw (c, l) refl
+
+one_scaled : (ts : List CodeTerm) (t : CodeTerm) → ts ≡ t ∷ [] → weight t ≡ pos 1 →
+    map scaled ts ≡ record { multiplier = pos 1; place = first_place (map scaled ts) } ∷ []
+one_scaled ts t one w =
+    subst (λ (xs : List CodeTerm). map scaled xs
+    ≡ record { multiplier = pos 1; place = first_place (map scaled xs) } ∷ []) (sym one)
+    (ap (λ (z : ℤ). record { multiplier = z; place = place_of t.from } ∷ []) w)
+
+wider : (limit width : ℕ) (z : ℤ) → limit ≤ half_of width → IsWithin limit z → FitsBits width z
+wider limit width z h f = record { low = omega (arith, ints, f.low); high = omega (arith, ints, f.high) }
+
+-- a row that is a word of one source
+copies : (p : Code) (words : List ℤ) (i : ℕ) → CodeFits p → WordsFit p words → i < length p.rows →
+    is_copy p (row_at p i) ≡ true → IsCopy (plan_for p (row_at p i)) words
+copies p words i f w h copy =
+    let row = row_at p i in
+    let t = code_term_at row.terms 0 in
+    let all = both_true _ _ copy in
+    let more = both_true _ _ all.1 in
+    let word = both_true _ _ more.1 in
+    let rest = both_true _ _ word.1 in
+    let shift : row.shift ≡ 0 = eqb-true row.shift 0 all.0 in
+    let one : length row.terms ≡ 1 = eqb-true (length row.terms) 1 more.0 in
+    let left : t.left ≡ 0 = eqb-true t.left 0 rest.0 in
+    let narrow : limit_of p t.from ≤ half_of row.width = grind (arith, nat_tests) in
+    let alone : row.terms ≡ t ∷ [] = one_term row.terms one in
+    let source = source_within p words i t.from w h ((f.reads i h).sources 0 _ (omega (arith, one))) in
+    let place : first_place (map scaled row.terms) ≡ place_of t.from =
+    ap (λ (ts : List CodeTerm). first_place (map scaled ts)) alone in
+    record {
+      shift = shift;
+      constant = rw shift refl;
+      terms = one_scaled row.terms t alone (one_weight t.coef t.left (is_one_from t.coef word.0) left);
+      kept = (f.rows i _ h).width_kept;
+      word = rw place (wider _ _ _ narrow source);
+    }
+
+-- what the kind by magnitude says of it
+suits_sum : (plan : Plan) (words : List ℤ) (bits big : ℕ) → plan.accumulator ≡ bits → bits ≤ 64 →
+    unsigned_abs plan.constant + magnitudes words plan.terms ≤ big → big < 2 ^ 126 →
+    Suits (sum_kind bits big) plan words
+unfolding sum_kind
+suits_sum plan words bits big same b h k =
     elim (cases_lt big (half_of bits)) [
-      | inl near ↦ let e : nat_lt big (half_of bits) ≡ true = grind (arith, nat_tests) in rw e (omega (arith, h, near))
+      | inl near ↦ let e : nat_lt big (half_of bits) ≡ true = grind (arith, nat_tests) in
+          rw (e, same) (omega (arith, h, near))
       | inr far ↦ let e : nat_lt big (half_of bits) ≡ false = grind (arith, nat_tests) in
-          rw e (elim (cases_lt big (2 ^ 63)) [
-            | inl near ↦ let f : nat_lt big (2 ^ 63) ≡ true =
-                grind (arith, nat_tests) in rw f (omega (arith, h, near), narrow bits big b far near)
-            | inr past ↦ let f : nat_lt big (2 ^ 63) ≡ false = grind (arith, nat_tests) in rw f (omega (arith, h, k))
+          rw e (elim (cases_lt big (2 ^ 61)) [
+            | inl near ↦ let f : nat_lt big (2 ^ 61) ≡ true =
+                grind (arith, nat_tests) in rw f (omega (arith, h, near), rw same (narrow bits big b far near))
+            | inr past ↦ let f : nat_lt big (2 ^ 61) ≡ false = grind (arith, nat_tests) in rw f (omega (arith, h, k))
           ])
     ]
   where
-    narrow : (bits big : ℕ) → bits ≤ 64 → half_of bits ≤ big → big < 2 ^ 63 → bits < 64
+    narrow : (bits big : ℕ) → bits ≤ 64 → half_of bits ≤ big → big < 2 ^ 61 → bits < 62
     narrow bits big b far near =
-        elim (cases_lt bits 64) [
+        elim (cases_lt bits 62) [
           | inl less ↦ less
-          | inr more ↦ let same : bits ≡ 64 = omega (arith, b, more) in
-              let wide : 2 ^ 63 ≤ big = rw same at far in absurd (omega (arith, wide, near))
+          | inr more ↦ let e : 61 ≤ bits - 1 = omega (arith, more) in
+              let wide : 2 ^ 61 ≤ half_of bits = pow-le-pow_right (lit< tt) e in
+              absurd (omega (arith, wide, far, near))
         ]
+
+suits : (copy : Bool) (kind : Kind) (plan : Plan) (words : List ℤ) → (copy ≡ true → IsCopy plan words) →
+    Suits kind plan words → Suits (cond copy Copy kind) plan words
+suits true kind plan words one other = one refl
+suits false kind plan words one other = other
 
 -- ---- plans
 
@@ -138,11 +207,14 @@ can_run p words i f w h =
       accumulator_low = f.accumulator_low;
       accumulator_high = f.accumulator_high;
       width = row.width;
+      half = refl;
       shift = row.shift_high;
       count = w.count;
       places = All-map (λ (t : ScaledTerm). t.place < WORD_COUNT) scaled ts places;
-      reach = reaches p.accumulator _ (constant_of (bare (row_at p i)) + greatest p ts) f.accumulator_high
-          (omega (arith, magnitudes_le p words ts small)) (omega (arith, constant, bound, few, f.terms));
+      kind = suits (is_copy p (row_at p i)) _ (plan_for p (row_at p i)) words (copies p words i f w h)
+          (suits_sum (plan_for p (row_at p i)) words p.accumulator (constant_of (bare (row_at p i)) + greatest p ts)
+          refl f.accumulator_high (omega (arith, magnitudes_le p words ts small))
+          (omega (arith, constant, bound, few, f.terms)));
     }
   where
     constant_small : (shift : ℕ) → shift ≤ LONGEST_SHIFT → half_place shift ≤ 2 ^ 62
@@ -173,7 +245,7 @@ fit_kept p words i z f w h =
       now = λ j l.
           elim (cases_eq j i) [
             | inl same ↦ rw (same, get_or-set_same words i _ (pos 0) below)
-                (wrap_small _ z (omega (arith, row.width.low)))
+                (wrap_is_bits _ z (omega (arith, row.width.low)))
             | inr other ↦ rw (get_or-set_other words i j _ (pos 0) other) (w.now j l)
           ];
       old = λ j l. rw (get_or-set_other words i (FIRST_OLD + j) _ (pos 0) (omega (arith, f.rows_high, h))) (w.old j l);

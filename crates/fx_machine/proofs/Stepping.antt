@@ -15,6 +15,7 @@ use Rattle.fx_machine.specs.Moments.{State, StandsAfter}
 use Rattle.fx_machine.specs.Prepared.{word_in}
 use Rattle.fx_code.specs.Run.{word_step, words, outputs_at}
 use Rattle.fx_machine.specs.Standing.{rows_done, WordsFit, Begins}
+use Rattle.fx_machine.proofs.Bits.{zero_fits}
 use Rattle.fx_machine.proofs.Following.{Starts, last_past, words_are}
 use Rattle.fx_code.proofs.LaterInputs.{same_before}
 
@@ -98,10 +99,10 @@ zeros_fit p kept e =
     let zero : (i : ℕ) → word_in kept i ≡ pos 0 = λ i. ap (λ (ws : List ℤ). word_in ws i) e ∙ zero_in WORD_COUNT i in
     record {
       count = ap length e ∙ length-replicate WORD_COUNT (pos 0);
-      now = λ i h. rw (zero i) (omega arith);
-      old = λ i h. rw (zero (FIRST_OLD + i)) (omega arith);
+      now = λ i h. rw (zero i) (zero_fits _);
+      old = λ i h. rw (zero (FIRST_OLD + i)) (zero_fits _);
       missing = λ i h l. zero (FIRST_OLD + i);
-      input = λ j h. rw (zero (FIRST_INPUT + j)) (omega arith);
+      input = λ j h. rw (zero (FIRST_INPUT + j)) (zero_fits _);
     }
 
 pub stands_at_first : (p : Code) (kept : List ℤ) → kept ≡ replicate WORD_COUNT (pos 0) →

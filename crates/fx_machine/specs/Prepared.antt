@@ -1,12 +1,12 @@
 -- Rows as machines keep them, and what they give.
 use Rattle.fx_machine.specs.declared.places.TheConstants.{FIRST_INPUT, FIRST_OLD, WORD_COUNT}
 use Rattle.fx_code.specs.declared.limits.TheConstants.{LONGEST_SHIFT}
-use Rattle.std.specs.Prelude.{◌≡◌, ℕ, ◌+◌, ◌-◌, ◌*◌, ◌^◌, ◌<◌, ◌≤◌, nat_lt, nat_le, cond, Bool, ◌||◌, ℤ, pos}
-use Rattle.std.specs.Prelude.{negsuc, ◌+ℤ◌, ◌*ℤ◌, unsigned_abs, List, [], ◌∷◌, length, map, All, slice_index}
-use Rattle.std.specs.Prelude.{slice_index_or}
+use Rattle.std.specs.Prelude.{◌≡◌, ℕ, ◌+◌, ◌-◌, ◌*◌, ◌^◌, ◌<◌, ◌≤◌, nat_lt, nat_le, nat_eq, cond, Bool, false}
+use Rattle.std.specs.Prelude.{◌||◌, ◌&&◌, ℤ, pos, negsuc, ◌+ℤ◌, ◌*ℤ◌, unsigned_abs}
+use Rattle.std.specs.Prelude.{List, [], ◌∷◌, length, map, All, slice_index, slice_index_or}
 use Rattle.std.specs.List.{list_any}
 use Rattle.fx_math.specs.Division.{floor_div}
-use Rattle.fx_math.specs.Residue.{wrap}
+use Rattle.fx_math.specs.Residue.{wrap, FitsBits}
 use Rattle.fx_math.specs.Words.{WidthFits}
 use Rattle.fx_code.specs.Code.{Row, Code, row_at, bare, constant_of, weight}
 use Rattle.fx_code.specs.declared.term.CodeTerm.{CodeTerm}
@@ -14,8 +14,9 @@ use Rattle.fx_code.specs.declared.term.Read.{Read}
 use Rattle.fx_code.specs.declared.term.Read.TheVariants.{Now, Old, In}
 use Rattle.fx_machine.specs.declared.prepared.ScaledTerm.{ScaledTerm}
 use Rattle.fx_machine.specs.declared.prepared.PreparedRow.{PreparedRow}
-use Rattle.fx_machine.specs.declared.prepared.Reach.{Reach}
-use Rattle.fx_machine.specs.declared.prepared.Reach.TheVariants.{Accumulator, Double, Quadruple}
+use Rattle.fx_machine.specs.declared.prepared.Kind.{Kind}
+use Rattle.fx_machine.specs.declared.prepared.Kind.TheVariants.{Copy, Word, Watched, Wide}
+use Rattle.fx_machine.specs.declared.sums.Outcome.{Outcome}
 
 -- ---- places
 
@@ -29,11 +30,11 @@ place_of (In j) = FIRST_INPUT + j
 abbrev pub word_in : List ℤ → ℕ → ℤ
 word_in words place = slice_index_or words place (pos 0)
 
--- no word of these bits has a greater magnitude
+-- half of the numbers of these bits
 abbrev pub half_of : ℕ → ℕ
 half_of bits = 2 ^ (bits - 1)
 
--- no word of a source has a greater magnitude
+-- half of the words that a source may have
 abbrev pub limit_of : Code → Read → ℕ
 limit_of p (Now i) = half_of (row_at p i).width
 limit_of p (Old i) = half_of (row_at p i).width
@@ -41,9 +42,28 @@ limit_of p (In j) = half_of (slice_index p.inputs j)
 
 -- ---- prepared rows
 
--- how far sums of this magnitude reach over accumulators of these bits
-unfoldable pub reach_of : ℕ → ℕ → Reach
-reach_of bits sum = cond (nat_lt sum (half_of bits)) Accumulator (cond (nat_lt sum (2 ^ 63)) Double Quadruple)
+-- the term at a place
+abbrev pub code_term_at : List CodeTerm → ℕ → CodeTerm
+code_term_at terms i = slice_index_or terms i (record { coef = pos 0; from = Now 0; left = 0 })
+
+-- a number is 1
+abbrev pub is_one : ℤ → Bool
+is_one (pos n) = nat_eq n 1
+is_one (negsuc n) = false
+
+-- a term is the word of a source that is no wider than these bits
+abbrev pub is_word : Code → ℕ → CodeTerm → Bool
+is_word p width t = is_one t.coef && (nat_eq t.left 0 && nat_le (limit_of p t.from) (half_of width))
+
+-- a row is the word of one source that is no wider
+abbrev pub is_copy : Code → Row → Bool
+is_copy p row =
+    nat_eq row.shift 0 && (nat_eq (length row.terms) 1 && is_word p row.width (code_term_at row.terms 0))
+
+-- the kind of a row that is no copy, by the greatest magnitude of its sums, over accumulators of these bits: none
+-- leaves the accumulator, none leaves 62 bits, or some may
+unfoldable pub sum_kind : ℕ → ℕ → Kind
+sum_kind bits sum = cond (nat_lt sum (half_of bits)) Word (cond (nat_lt sum (2 ^ 61)) Watched Wide)
 
 -- the greatest sum of the magnitudes of terms
 abbrev pub greatest : Code → List CodeTerm → ℕ
@@ -53,12 +73,17 @@ greatest p (t ∷ ts) = unsigned_abs (weight t) * limit_of p t.from + greatest p
 abbrev pub scaled : CodeTerm → ScaledTerm
 scaled t = record { multiplier = weight t; place = place_of t.from }
 
+abbrev pub kind_of : Code → Row → Kind
+kind_of p row =
+    cond (is_copy p row) Copy (sum_kind p.accumulator (constant_of (bare row) + greatest p row.terms))
+
 -- what a row needs to be computed
 pub record Plan : Type 0 where
   pub accumulator : ℕ
   pub width : ℕ
+  pub half : ℕ
   pub shift : ℕ
-  pub reach : Reach
+  pub kind : Kind
   pub constant : ℤ
   pub terms : List ScaledTerm
 
@@ -68,8 +93,9 @@ plan_of r =
     record {
       accumulator = r.accumulator;
       width = r.width;
+      half = r.half;
       shift = r.shift;
-      reach = r.reach;
+      kind = r.kind;
       constant =
           r.constant;
       terms = r.terms.items;
@@ -81,8 +107,9 @@ plan_for p row =
     record {
       accumulator = p.accumulator;
       width = row.width;
+      half = half_of row.width;
       shift = row.shift;
-      reach = reach_of p.accumulator (constant_of (bare row) + greatest p row.terms);
+      kind = kind_of p row;
       constant = pos (constant_of (bare row));
       terms = map scaled row.terms;
     }
@@ -104,10 +131,14 @@ abbrev pub magnitudes : List ℤ → List ScaledTerm → ℕ
 magnitudes words [] = 0
 magnitudes words (t ∷ ts) = unsigned_abs t.multiplier * unsigned_abs (word_in words t.place) + magnitudes words ts
 
+-- a number is not one of those of which so many lie below 0 and as many from 0 on
+abbrev pub is_beyond : ℕ → ℤ → Bool
+is_beyond half (pos n) = nat_le half n
+is_beyond half (negsuc n) = nat_le half n
+
 -- a number is not one of these bits
 abbrev pub is_outside : ℕ → ℤ → Bool
-is_outside bits (pos n) = nat_le (half_of bits) n
-is_outside bits (negsuc n) = nat_le (half_of bits) n
+is_outside bits z = is_beyond (half_of bits) z
 
 -- ---- what a row gives
 
@@ -133,20 +164,42 @@ is_partial plan words = list_any (is_outside plan.accumulator)
 abbrev pub is_lost : Plan → List ℤ → Bool
 is_lost plan words = is_outside plan.accumulator (sum_of plan words) || is_outside plan.width (floor_of plan words)
 
+-- a row's word and marks are those of its plan
+pub record Gives (plan : Plan) (words : List ℤ) (given : Outcome) : Type 0 where
+  pub word : given.word ≡ word_of plan words
+  pub partial : given.partial ≡ is_partial plan words
+  pub lost : given.lost ≡ is_lost plan words
+
 -- ---- what a row stands on
 
--- a sum of magnitudes lies within its reach
-abbrev pub Reaches : Reach → ℕ → ℕ → Type 0
-Reaches Accumulator bits sum = sum < half_of bits
-Reaches Double bits sum = (sum < 2 ^ 63) × (bits < 64)
-Reaches Quadruple bits sum = sum < 2 ^ 126
+-- the place of the first word that a plan takes
+abbrev pub first_place : List ScaledTerm → ℕ
+first_place [] = 0
+first_place (t ∷ ts) = t.place
+
+-- the sum is one word, which is kept as it is
+pub record IsCopy (plan : Plan) (words : List ℤ) : Type 0 where
+  pub shift : plan.shift ≡ 0
+  pub constant : plan.constant ≡ pos 0
+  pub terms : plan.terms ≡ record { multiplier = pos 1; place = first_place plan.terms } ∷ []
+  pub kept : plan.width ≤ plan.accumulator
+  pub word : FitsBits plan.width (word_in words (first_place plan.terms))
+
+-- what holds of the magnitude of the sums of a row
+abbrev pub Suits : Kind → Plan → List ℤ → Type 0
+Suits Copy plan words = IsCopy plan words
+Suits Word plan words = unsigned_abs plan.constant + magnitudes words plan.terms < half_of plan.accumulator
+Suits Watched plan words =
+    (unsigned_abs plan.constant + magnitudes words plan.terms < 2 ^ 61) × (plan.accumulator < 62)
+Suits Wide plan words = unsigned_abs plan.constant + magnitudes words plan.terms < 2 ^ 126
 
 -- a plan that can be computed over these words
 pub record CanRun (plan : Plan) (words : List ℤ) : Type 0 where
   pub accumulator_low : 16 ≤ plan.accumulator
   pub accumulator_high : plan.accumulator ≤ 64
   pub width : WidthFits plan.width
+  pub half : plan.half ≡ half_of plan.width
   pub shift : plan.shift ≤ LONGEST_SHIFT
   pub count : length words ≡ WORD_COUNT
   pub places : All (λ (t : ScaledTerm). t.place < WORD_COUNT) plan.terms
-  pub reach : Reaches plan.reach plan.accumulator (unsigned_abs plan.constant + magnitudes words plan.terms)
+  pub kind : Suits plan.kind plan words

@@ -1,13 +1,14 @@
 -- A machine's fields, as the machine that contracts see, and a moment row by row.
 use Rattle.fx_machine.specs.declared.places.TheConstants.{FIRST_INPUT, FIRST_OLD, WORD_COUNT}
 use Rattle.fx_code.specs.declared.limits.TheConstants.{CODE_ROWS}
-use Rattle.std.specs.Prelude.{◌≡◌, ℕ, zero, suc, ◌+◌, ◌<◌, ◌≤◌, ℤ, pos, unsigned_abs, Bool, cond, List, length}
+use Rattle.std.specs.Prelude.{◌≡◌, ℕ, zero, suc, ◌+◌, ◌<◌, ◌≤◌, ℤ, pos, Bool, cond, List, length}
 use Rattle.std.specs.Prelude.{map, take, slice_index, slice_set}
 use Rattle.std.specs.Int.{bit_at}
+use Rattle.fx_math.specs.Residue.{FitsBits}
 use Rattle.fx_code.specs.Code.{Code, row_at}
 use Rattle.fx_code.specs.Fits.{CodeFits}
 use Rattle.fx_machine.specs.Moments.{State}
-use Rattle.fx_machine.specs.Prepared.{plan_of, plan_for, word_in, word_of, is_partial, is_lost, half_of}
+use Rattle.fx_machine.specs.Prepared.{plan_of, plan_for, word_in, word_of, is_partial, is_lost}
 use Rattle.fx_machine.specs.declared.prepared.PreparedRow.{PreparedRow}
 use Rattle.fx_machine.specs.declared.machine.Machine.TheInside.{Inside}
 
@@ -22,11 +23,11 @@ rows_done p words (suc i) = slice_set (rows_done p words i) i (word_of (plan_for
 -- the words of rows and inputs lie within their bits, and those of rows that are not there are 0
 pub record WordsFit (p : Code) (words : List ℤ) : Type 0 where
   pub count : length words ≡ WORD_COUNT
-  pub now : (i : ℕ) → i < length p.rows → unsigned_abs (word_in words i) ≤ half_of (row_at p i).width
-  pub old : (i : ℕ) → i < length p.rows → unsigned_abs (word_in words (FIRST_OLD + i)) ≤ half_of (row_at p i).width
+  pub now : (i : ℕ) → i < length p.rows → FitsBits (row_at p i).width (word_in words i)
+  pub old : (i : ℕ) → i < length p.rows → FitsBits (row_at p i).width (word_in words (FIRST_OLD + i))
   pub missing : (i : ℕ) → length p.rows ≤ i → i < CODE_ROWS → word_in words (FIRST_OLD + i) ≡ pos 0
   pub input : (j : ℕ) → j < length p.inputs →
-      unsigned_abs (word_in words (FIRST_INPUT + j)) ≤ half_of (slice_index p.inputs j)
+      FitsBits (slice_index p.inputs j) (word_in words (FIRST_INPUT + j))
 
 -- the rows of a program, prepared
 abbrev pub ArePrepared : Code → List PreparedRow → Type 0

@@ -1,7 +1,20 @@
 ghost use Rattle.std.specs.Prelude.{◌≡◌, ◌+◌, ◌*◌, ◌^◌, ◌<◌, ◌≤◌, length, map, IfOk, unsigned_abs};
 ghost use Rattle.fx_code.specs.Code.{row_at, constant_of, weight};
 ghost use Rattle.fx_code.specs.Fits.{TermFits};
-ghost use Rattle.fx_machine.specs.Prepared.{place_of, half_of, limit_of, reach_of, greatest, scaled, plan_of, plan_for};
+ghost use Rattle.fx_machine.specs.Prepared.{
+  place_of,
+  half_of,
+  limit_of,
+  is_one,
+  is_word,
+  is_copy,
+  sum_kind,
+  kind_of,
+  greatest,
+  scaled,
+  plan_of,
+  plan_for,
+};
 ghost use Rattle.fx_machine.specs.Standing.{ArePrepared};
 
 use crate::places::{FIRST_INPUT, FIRST_OLD};
@@ -9,15 +22,17 @@ use fx_code::{CODE_TERMS, COEFFICIENT_BITS, CodeTerm, LONGEST_SHIFT, Program, Re
 use fx_math::GREATEST_WIDTH;
 use std::alloc::{AllocError, Global};
 
-// How far the sums of a row reach.
+// How a row is computed.
 #[derive(Clone, Copy)]
-pub enum Reach {
-    // Within the accumulator's bits.
-    Accumulator,
-    // Within 64 bits.
-    Double,
-    // Within 128 bits.
-    Quadruple,
+pub enum Kind {
+    // As the word of its one source, which is no wider.
+    Copy,
+    // By sums within the accumulator's bits; the word may lose bits.
+    Word,
+    // By sums within 62 bits, which may leave the accumulator.
+    Watched,
+    // By sums within 128 bits.
+    Wide,
 }
 
 // A coefficient shifted to the left, and the place of the word that it multiplies.
@@ -33,7 +48,9 @@ pub struct PreparedRow {
     pub accumulator: u8,
     pub width: u8,
     pub shift: u8,
-    pub reach: Reach,
+    pub kind: Kind,
+    // Half of the numbers of the word's bits.
+    pub half: u64,
     pub constant: i64,
     pub terms: Vec<ScaledTerm>,
 }
@@ -49,7 +66,7 @@ fn place_of(from: Read) -> usize
     }
 }
 
-// The greatest magnitude of a word of so many bits.
+// Half of the words of so many bits.
 fn half_of(bits: u8) -> u64
     requires low { 1 ≤ bits }
     requires high { bits ≤ GREATEST_WIDTH }
@@ -59,7 +76,7 @@ fn half_of(bits: u8) -> u64
     1 << (bits - 1)
 }
 
-// The greatest magnitude of a word of row i; 1 where it is not there.
+// Half of the words that row i may have; 1 where it is not there.
 fn row_limit(program: &Program, i: usize) -> u64
     ensures value { result ≡ half_of (row_at program.now i).width }
     ensures bound { result ≤ 2 ^ 31 }
@@ -71,7 +88,7 @@ fn row_limit(program: &Program, i: usize) -> u64
     }
 }
 
-// The greatest magnitude of a word of a source.
+// Half of the words that a source may have.
 fn limit_of(program: &Program, from: Read) -> u64
     ensures value { result ≡ limit_of program.now from }
     ensures bound { result ≤ 2 ^ 31 }
@@ -109,19 +126,56 @@ fn greatest(program: &Program, i: usize) -> u128
     sum
 }
 
-// How far sums of this magnitude reach.
-fn reach_of(bits: u8, sum: u128) -> Reach
+// Whether a number is 1.
+fn is_one(z: i64) -> bool
+    ensures { result ≡ is_one z }
+{
+    z == 1
+}
+
+// Whether a term is the word of a source that is no wider than so many bits.
+fn is_word(program: &Program, width: u8, term: &CodeTerm) -> bool
+    requires low { 1 ≤ width }
+    requires high { width ≤ GREATEST_WIDTH }
+    ensures { result ≡ is_word program.now width term.now }
+{
+    is_one(term.coef) && term.left == 0 && limit_of(program, term.from) <= half_of(width)
+}
+
+// Whether row i is the word of one source that is no wider.
+fn is_copy(program: &Program, i: usize) -> bool
+    requires { i < length program.now.rows }
+    ensures { result ≡ is_copy program.now (row_at program.now i) }
+{
+    let terms = program.terms(i);
+    program.shift(i) == 0 && terms.len() == 1 && is_word(program, program.width(i), &terms[0])
+}
+
+// The kind of a row that is no copy, by the greatest magnitude of its sums.
+fn sum_kind(bits: u8, sum: u128) -> Kind
     requires low { 1 ≤ bits }
     requires high { bits ≤ 64 }
-    ensures { result ≡ reach_of bits sum }
+    ensures { result ≡ sum_kind bits sum }
 {
     if sum < 1 << (bits - 1) {
-        Reach::Accumulator
-    } else if sum < 1 << 63 {
-        Reach::Double
+        Kind::Word
+    } else if sum < 1 << 61 {
+        Kind::Watched
     } else {
-        Reach::Quadruple
+        Kind::Wide
     }
+}
+
+// The kind of row i.
+fn kind_of(program: &Program, i: usize) -> Kind
+    requires { i < length program.now.rows }
+    ensures { result ≡ kind_of program.now (row_at program.now i) }
+{
+    if is_copy(program, i) {
+        return Kind::Copy;
+    }
+    let sum = u128::from(program.constant(i).unsigned_abs()) + greatest(program, i);
+    sum_kind(program.accumulator(), sum)
 }
 
 // A term with its coefficient shifted to the left.
@@ -154,15 +208,15 @@ fn prepared_row(alloc: Global, program: &Program, i: usize) -> Result<PreparedRo
     requires { i < length program.now.rows }
     ensures { IfOk result (λ r. plan_of r ≡ plan_for program.now (row_at program.now i)) }
 {
-    let constant = program.constant(i);
-    let sum = u128::from(constant.unsigned_abs()) + greatest(program, i);
     let terms = scaled_terms(alloc, program, i)?;
+    let width = program.width(i);
     Ok(PreparedRow {
         accumulator: program.accumulator(),
-        width: program.width(i),
+        width,
         shift: program.shift(i),
-        reach: reach_of(program.accumulator(), sum),
-        constant,
+        kind: kind_of(program, i),
+        half: half_of(width),
+        constant: program.constant(i),
         terms,
     })
 }

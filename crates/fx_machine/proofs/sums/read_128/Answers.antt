@@ -7,14 +7,14 @@ use Rattle.fx_machine.specs.Prepared.{is_outside}
 use Rattle.fx_machine.proofs.Bits.{wrap_inside, fits_from}
 use Rattle.fx_machine.proofs.sums.read_128.Goals as goal
 
-pub returns-clause-accumulator : goal.returns-clause-accumulator
-returns-clause-accumulator c =
-    let z : to_z w128 (of_z w128 c.args.sum) ≡ c.args.sum = omega (arith, ints) in
-    let e : is_outside c.args.bits c.args.sum ≡ false =
+pub returns-clause-value : goal.returns-clause-value
+returns-clause-value c =
+    let z : to_z w128 (of_z w128 c.args.z) ≡ c.args.z = omega (arith, ints) in
+    let e : is_outside c.args.bits c.args.z ≡ false =
     sym (rw z at c.is_outside_128.ensures) ∙ c.if-is_outside_128.false in
     let low : c.args.bits - 1 ≤ 63 = omega (arith, c.requires.high) in
     let small : 2 ^ (c.args.bits - 1) ≤ 2 ^ 63 = pow-le-pow_right (lit< tt) low in
-    let f : FitsBits c.args.bits c.args.sum = fits_from c.args.bits c.args.sum e in
-    let same : to_z w64 (of_z w64 (to_z w128 (of_z w128 c.args.sum))) ≡ c.args.sum =
+    let f : FitsBits c.args.bits c.args.z = fits_from c.args.bits c.args.z e in
+    let same : to_z w64 (of_z w64 (to_z w128 (of_z w128 c.args.z))) ≡ c.args.z =
     omega (arith, ints, small, f.low, f.high) in
-    same ∙ sym (wrap_inside c.args.bits c.args.sum c.requires.low e)
+    same ∙ sym (wrap_inside c.args.bits c.args.z c.requires.low e)
