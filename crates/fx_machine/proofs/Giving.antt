@@ -1,9 +1,10 @@
 -- What a row gives, from its accumulator as it is read.
-use Rattle.std.proofs.Common.{◌≡◌, ℕ, ◌+◌, ◌^◌, ◌<◌, ◌≤◌, ◌-◌, ℤ, pos, negsuc, ◌+ℤ◌, ◌*ℤ◌, unsigned_abs, Bool, false, ◌||◌, List}
+use Rattle.std.proofs.Common.{◌≡◌, ℕ, ◌+◌, ◌^◌, ◌<◌, ◌≤◌, ◌-◌, ℤ, pos, negsuc, ◌+ℤ◌, ◌*ℤ◌, unsigned_abs, Bool, true, false, ◌||◌, List}
 use Rattle.std.proofs.Common.{[], ◌∷◌, sym, ap, ap₂, ◌∙◌, refl, arith, lit<}
 use Rattle.std.specs.List.{list_any}
 use Rattle.std.proofs.Math.Nat.{pow-le-pow_right}
 use Rattle.std.proofs.lemmas.Int.{ints}
+use Rattle.std.proofs.lemmas.Bool.{false≢true}
 use Rattle.fx_math.specs.Division.{floor_div}
 use Rattle.fx_math.specs.Residue.{wrap, FitsBits}
 use Rattle.fx_machine.specs.Prepared.{Plan, word_in, half_of, is_outside, scaled_sum, later_sums, magnitudes}
@@ -18,13 +19,14 @@ pub gives : (plan : Plan) (words : List ℤ) (total word : ℤ) (partial outside
     outside ≡ is_outside plan.accumulator (sum_of plan words) →
     word ≡ wrap plan.width (floor_div total (2 ^ plan.shift)) →
     lost ≡ is_outside plan.width (floor_div total (2 ^ plan.shift)) →
-    Gives plan words (record { word = word; partial = partial; lost = outside || lost })
+    Gives plan words (record { word = word; partial = partial; lost = outside || lost; marked = true })
 gives plan words total word partial outside lost read way out stored loses =
     record {
       word = stored ∙ ap (λ (z : ℤ). wrap plan.width (floor_div z (2 ^ plan.shift))) read;
       partial = way;
       lost = ap₂ (λ (a b : Bool). a || b) out
           (loses ∙ ap (λ (z : ℤ). is_outside plan.width (floor_div z (2 ^ plan.shift))) read);
+      marked = λ e. absurd (false≢true (sym e));
     }
 
 -- of sums that stay within the accumulator
@@ -32,12 +34,25 @@ pub kept_gives : (plan : Plan) (words : List ℤ) (sum word : ℤ) (lost : Bool)
     unsigned_abs plan.constant + magnitudes words plan.terms < half_of plan.accumulator →
     sum ≡ sum_of plan words → word ≡ wrap plan.width (floor_div sum (2 ^ plan.shift)) →
     lost ≡ is_outside plan.width (floor_div sum (2 ^ plan.shift)) →
-    Gives plan words (record { word = word; partial = false; lost = lost })
+    Gives plan words (record { word = word; partial = false; lost = lost; marked = lost })
 kept_gives plan words sum word lost h reach e stored loses =
     let inside : is_outside plan.accumulator (sum_of plan words) ≡ false =
     small_inside plan.accumulator _ (omega (arith, reach, sum_small plan.constant words plan.terms)) in
-    gives plan words sum word false false lost (e ∙ sym (wrap_inside plan.accumulator _ h inside))
-    (sym (sums_inside plan.accumulator plan.constant words plan.terms reach)) (sym inside) stored loses
+    let parts = gives plan words sum word false false lost (e ∙ sym (wrap_inside plan.accumulator _ h inside))
+    (sym (sums_inside plan.accumulator plan.constant words plan.terms reach)) (sym inside) stored loses in
+    record { word = parts.word; partial = parts.partial; lost = parts.lost; marked = λ none. (refl, none) }
+
+-- of sums that stay within the accumulator and are kept as words
+pub sure_gives : (plan : Plan) (words : List ℤ) (sum word : ℤ) → 1 ≤ plan.accumulator → 1 ≤ plan.width →
+    unsigned_abs plan.constant + magnitudes words plan.terms < half_of plan.accumulator →
+    is_outside plan.width (floor_div (sum_of plan words) (2 ^ plan.shift)) ≡ false →
+    sum ≡ sum_of plan words → word ≡ floor_div sum (2 ^ plan.shift) →
+    Gives plan words (record { word = word; partial = false; lost = false; marked = false })
+sure_gives plan words sum word h low reach kept e floored =
+    let inside : is_outside plan.width (floor_div sum (2 ^ plan.shift)) ≡ false =
+    ap (λ (z : ℤ). is_outside plan.width (floor_div z (2 ^ plan.shift))) e ∙ kept in
+    kept_gives plan words sum word false h reach e
+    (floored ∙ sym (wrap_inside plan.width (floor_div sum (2 ^ plan.shift)) low inside)) (sym inside)
 
 -- ---- copies
 
@@ -65,7 +80,7 @@ one_inside bits words place h =
 
 pub copy_gives : (plan : Plan) (words : List ℤ) (word : ℤ) → 1 ≤ plan.width → IsCopy plan words →
     word ≡ word_in words (first_place plan.terms) →
-    Gives plan words (record { word = word; partial = false; lost = false })
+    Gives plan words (record { word = word; partial = false; lost = false; marked = false })
 copy_gives plan words word low copy e =
     let place = first_place plan.terms in
     let z = word_in words place in
@@ -87,6 +102,7 @@ copy_gives plan words word low copy e =
           ∙ one_inside plan.accumulator words place inside);
       lost = sym (ap₂ (λ (a b : Bool). a || b)
           (ap (is_outside plan.accumulator) total ∙ inside) (ap (is_outside plan.width) floor ∙ in_word));
+      marked = λ none. (refl, refl);
     }
   where
     zero_add : (x : ℤ) → pos 0 +ℤ x ≡ x

@@ -1,5 +1,6 @@
 mod Adding
 mod Bits
+mod Ends
 mod Following
 mod Giving
 mod Marking

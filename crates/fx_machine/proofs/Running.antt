@@ -16,15 +16,17 @@ use Rattle.std.proofs.lemmas.List.Elements.{All-map, All-weaker, All-tail}
 use Rattle.std.proofs.lemmas.List.Sums.{get_or-le-sum_by}
 use Rattle.fx_math.specs.Residue.{wrap, FitsBits}
 use Rattle.fx_machine.proofs.Bits.{IsWithin, wrap_is_bits, within_bits, within_small, zero_fits, half_small}
+use Rattle.fx_machine.proofs.Ends.{AreWithin, sure_kept}
+use Rattle.fx_math.specs.Division.{floor_div}
 use Rattle.fx_eqs.specs.declared.limits.TheConstants.{PORTS}
 use Rattle.fx_code.specs.Code.{Row, Code, row_at, bare, half_place, constant_of, weight}
 use Rattle.fx_code.specs.Fits.{RowFits, SourceFits, CodeFits}
 use Rattle.fx_code.specs.Limits.{term_count}
 use Rattle.fx_machine.specs.Prepared.{place_of, word_in, half_of, limit_of, code_term_at, is_one}
-use Rattle.fx_machine.specs.Prepared.{is_copy, sum_kind, greatest, scaled, Plan, plan_of, plan_for, magnitudes}
-use Rattle.fx_machine.specs.Prepared.{word_of, first_place, IsCopy, Suits, CanRun}
+use Rattle.fx_machine.specs.Prepared.{is_copy, is_sure, kept_kind, sum_kind, greatest, scaled, Plan, plan_of, plan_for, magnitudes}
+use Rattle.fx_machine.specs.Prepared.{sum_of, is_outside, word_of, first_place, IsCopy, Suits, CanRun}
 use Rattle.fx_machine.specs.declared.prepared.Kind.{Kind}
-use Rattle.fx_machine.specs.declared.prepared.Kind.TheVariants.{Copy}
+use Rattle.fx_machine.specs.declared.prepared.Kind.TheVariants.{Copy, Sure, Word}
 use Rattle.fx_machine.specs.Standing.{rows_done, WordsFit, ArePrepared, HasBits}
 use Rattle.fx_machine.specs.declared.prepared.PreparedRow.{PreparedRow}
 use Rattle.fx_machine.specs.declared.prepared.ScaledTerm.{ScaledTerm}
@@ -154,14 +156,15 @@ copies p words i f w h copy =
     }
 
 -- what the kind by magnitude says of it
-suits_sum : (plan : Plan) (words : List ℤ) (bits big : ℕ) → plan.accumulator ≡ bits → bits ≤ 64 →
+suits_sum : (plan : Plan) (words : List ℤ) (kept : Kind) (bits big : ℕ) → plan.accumulator ≡ bits → bits ≤ 64 →
     unsigned_abs plan.constant + magnitudes words plan.terms ≤ big → big < 2 ^ 126 →
-    Suits (sum_kind bits big) plan words
+    (unsigned_abs plan.constant + magnitudes words plan.terms < half_of plan.accumulator → Suits kept plan words) →
+    Suits (sum_kind bits big kept) plan words
 unfolding sum_kind
-suits_sum plan words bits big same b h k =
+suits_sum plan words kept bits big same b h k stays =
     elim (cases_lt big (half_of bits)) [
       | inl near ↦ let e : nat_lt big (half_of bits) ≡ true = grind (arith, nat_tests) in
-          rw (e, same) (omega (arith, h, near))
+          rw e (stays (rw same (omega (arith, h, near))))
       | inr far ↦ let e : nat_lt big (half_of bits) ≡ false = grind (arith, nat_tests) in
           rw e (elim (cases_lt big (2 ^ 61)) [
             | inl near ↦ let f : nat_lt big (2 ^ 61) ≡ true =
@@ -178,6 +181,13 @@ suits_sum plan words bits big same b h k =
               let wide : 2 ^ 61 ≤ half_of bits = pow-le-pow_right (lit< tt) e in
               absurd (omega (arith, wide, far, near))
         ]
+
+kept_suits : (sure : Bool) (plan : Plan) (words : List ℤ) →
+    (sure ≡ true → is_outside plan.width (floor_div (sum_of plan words) (2 ^ plan.shift)) ≡ false) →
+    unsigned_abs plan.constant + magnitudes words plan.terms < half_of plan.accumulator →
+    Suits (cond sure Sure Word) plan words
+kept_suits true plan words kept h = (h, kept refl)
+kept_suits false plan words kept h = h
 
 suits : (copy : Bool) (kind : Kind) (plan : Plan) (words : List ℤ) → (copy ≡ true → IsCopy plan words) →
     Suits kind plan words → Suits (cond copy Copy kind) plan words
@@ -199,6 +209,9 @@ can_run p words i f w h =
     let small = All-weaker _ (λ (t : CodeTerm).
     unsigned_abs (word_in words (place_of t.from)) ≤ limit_of p t.from) (λ (t : CodeTerm) s.
     source_small p words i t.from w h s) ts sources in
+    let within : AreWithin p words ts = All-weaker _ (λ (t : CodeTerm).
+    IsWithin (limit_of p t.from) (word_in words (place_of t.from))) (λ (t : CodeTerm) s.
+    source_within p words i t.from w h s) ts sources in
     let each : All (λ (t : CodeTerm). (unsigned_abs (weight t) < 2 ^ 62) × (limit_of p t.from ≤ 2 ^ 31)) ts =
     λ k d l. ((row.terms k d l).product, limit_small p i _ f h (sources k d l)) in
     let constant : constant_of (bare (row_at p i)) ≤ 2 ^ 62 = constant_small (row_at p i).shift row.shift_high in
@@ -212,9 +225,11 @@ can_run p words i f w h =
       count = w.count;
       places = All-map (λ (t : ScaledTerm). t.place < WORD_COUNT) scaled ts places;
       kind = suits (is_copy p (row_at p i)) _ (plan_for p (row_at p i)) words (copies p words i f w h)
-          (suits_sum (plan_for p (row_at p i)) words p.accumulator (constant_of (bare (row_at p i)) + greatest p ts)
-          refl f.accumulator_high (omega (arith, magnitudes_le p words ts small))
-          (omega (arith, constant, bound, few, f.terms)));
+          (suits_sum (plan_for p (row_at p i)) words (kept_kind p (row_at p i)) p.accumulator
+          (constant_of (bare (row_at p i)) + greatest p ts) refl f.accumulator_high
+          (omega (arith, magnitudes_le p words ts small)) (omega (arith, constant, bound, few, f.terms))
+          (kept_suits (is_sure p (row_at p i)) (plan_for p (row_at p i)) words
+          (sure_kept p words (row_at p i) within)));
     }
   where
     constant_small : (shift : ℕ) → shift ≤ LONGEST_SHIFT → half_place shift ≤ 2 ^ 62

@@ -2,7 +2,7 @@
 use Rattle.fx_machine.specs.declared.places.TheConstants.{FIRST_INPUT, FIRST_OLD, WORD_COUNT}
 use Rattle.fx_code.specs.declared.limits.TheConstants.{LONGEST_SHIFT}
 use Rattle.std.specs.Prelude.{◌≡◌, ℕ, ◌+◌, ◌-◌, ◌*◌, ◌^◌, ◌<◌, ◌≤◌, nat_lt, nat_le, nat_eq, cond, Bool, false}
-use Rattle.std.specs.Prelude.{◌||◌, ◌&&◌, ℤ, pos, negsuc, ◌+ℤ◌, ◌*ℤ◌, unsigned_abs}
+use Rattle.std.specs.Prelude.{true, not, ◌-ℤ◌, ◌||◌, ◌&&◌, ℤ, pos, negsuc, ◌+ℤ◌, ◌*ℤ◌, unsigned_abs}
 use Rattle.std.specs.Prelude.{List, [], ◌∷◌, length, map, All, slice_index, slice_index_or}
 use Rattle.std.specs.List.{list_any}
 use Rattle.fx_math.specs.Division.{floor_div}
@@ -15,7 +15,7 @@ use Rattle.fx_code.specs.declared.term.Read.TheVariants.{Now, Old, In}
 use Rattle.fx_machine.specs.declared.prepared.ScaledTerm.{ScaledTerm}
 use Rattle.fx_machine.specs.declared.prepared.PreparedRow.{PreparedRow}
 use Rattle.fx_machine.specs.declared.prepared.Kind.{Kind}
-use Rattle.fx_machine.specs.declared.prepared.Kind.TheVariants.{Copy, Word, Watched, Wide}
+use Rattle.fx_machine.specs.declared.prepared.Kind.TheVariants.{Copy, Sure, Word, Watched, Wide}
 use Rattle.fx_machine.specs.declared.sums.Outcome.{Outcome}
 
 -- ---- places
@@ -60,10 +60,55 @@ abbrev pub is_copy : Code → Row → Bool
 is_copy p row =
     nat_eq row.shift 0 && (nat_eq (length row.terms) 1 && is_word p row.width (code_term_at row.terms 0))
 
+-- a number is not one of those of which so many lie below 0 and as many from 0 on
+abbrev pub is_beyond : ℕ → ℤ → Bool
+is_beyond half (pos n) = nat_le half n
+is_beyond half (negsuc n) = nat_le half n
+
+-- a number is not one of these bits
+abbrev pub is_outside : ℕ → ℤ → Bool
+is_outside bits z = is_beyond (half_of bits) z
+
+-- a number lies below 0
+abbrev pub is_negative : ℤ → Bool
+is_negative (pos n) = false
+is_negative (negsuc n) = true
+
+-- how far below 0 a number times a word may lie, and how far above: half of the words lie below 0
+abbrev pub depth_of : ℤ → ℕ → ℕ
+depth_of weight half = unsigned_abs weight * cond (is_negative weight) (half - 1) half
+
+abbrev pub height_of : ℤ → ℕ → ℕ
+height_of weight half = unsigned_abs weight * cond (is_negative weight) half (half - 1)
+
+-- the same of a sum of terms
+abbrev pub depth : Code → List CodeTerm → ℕ
+depth p [] = 0
+depth p (t ∷ ts) = depth_of (weight t) (limit_of p t.from) + depth p ts
+
+abbrev pub height : Code → List CodeTerm → ℕ
+height p [] = 0
+height p (t ∷ ts) = height_of (weight t) (limit_of p t.from) + height p ts
+
+-- the least and the greatest sum of a row, floored by its shift
+abbrev pub least : Code → Row → ℤ
+least p row = floor_div (pos (constant_of (bare row)) -ℤ pos (depth p row.terms)) (2 ^ row.shift)
+
+abbrev pub most : Code → Row → ℤ
+most p row = floor_div (pos (constant_of (bare row) + height p row.terms)) (2 ^ row.shift)
+
+-- both are words of the row
+abbrev pub is_sure : Code → Row → Bool
+is_sure p row = not (is_outside row.width (least p row) || is_outside row.width (most p row))
+
 -- the kind of a row that is no copy, by the greatest magnitude of its sums, over accumulators of these bits: none
 -- leaves the accumulator, none leaves 62 bits, or some may
-unfoldable pub sum_kind : ℕ → ℕ → Kind
-sum_kind bits sum = cond (nat_lt sum (half_of bits)) Word (cond (nat_lt sum (2 ^ 61)) Watched Wide)
+unfoldable pub sum_kind : ℕ → ℕ → Kind → Kind
+sum_kind bits sum kept = cond (nat_lt sum (half_of bits)) kept (cond (nat_lt sum (2 ^ 61)) Watched Wide)
+
+-- the kind of a row whose sums stay within the accumulator
+abbrev pub kept_kind : Code → Row → Kind
+kept_kind p row = cond (is_sure p row) Sure Word
 
 -- the greatest sum of the magnitudes of terms
 abbrev pub greatest : Code → List CodeTerm → ℕ
@@ -75,7 +120,8 @@ scaled t = record { multiplier = weight t; place = place_of t.from }
 
 abbrev pub kind_of : Code → Row → Kind
 kind_of p row =
-    cond (is_copy p row) Copy (sum_kind p.accumulator (constant_of (bare row) + greatest p row.terms))
+    cond (is_copy p row) Copy
+    (sum_kind p.accumulator (constant_of (bare row) + greatest p row.terms) (kept_kind p row))
 
 -- what a row needs to be computed
 pub record Plan : Type 0 where
@@ -131,15 +177,6 @@ abbrev pub magnitudes : List ℤ → List ScaledTerm → ℕ
 magnitudes words [] = 0
 magnitudes words (t ∷ ts) = unsigned_abs t.multiplier * unsigned_abs (word_in words t.place) + magnitudes words ts
 
--- a number is not one of those of which so many lie below 0 and as many from 0 on
-abbrev pub is_beyond : ℕ → ℤ → Bool
-is_beyond half (pos n) = nat_le half n
-is_beyond half (negsuc n) = nat_le half n
-
--- a number is not one of these bits
-abbrev pub is_outside : ℕ → ℤ → Bool
-is_outside bits z = is_beyond (half_of bits) z
-
 -- ---- what a row gives
 
 abbrev pub sum_of : Plan → List ℤ → ℤ
@@ -169,6 +206,7 @@ pub record Gives (plan : Plan) (words : List ℤ) (given : Outcome) : Type 0 whe
   pub word : given.word ≡ word_of plan words
   pub partial : given.partial ≡ is_partial plan words
   pub lost : given.lost ≡ is_lost plan words
+  pub marked : given.marked ≡ false → (given.partial ≡ false) × (given.lost ≡ false)
 
 -- ---- what a row stands on
 
@@ -188,6 +226,9 @@ pub record IsCopy (plan : Plan) (words : List ℤ) : Type 0 where
 -- what holds of the magnitude of the sums of a row
 abbrev pub Suits : Kind → Plan → List ℤ → Type 0
 Suits Copy plan words = IsCopy plan words
+Suits Sure plan words =
+    (unsigned_abs plan.constant + magnitudes words plan.terms < half_of plan.accumulator)
+    × (is_outside plan.width (floor_div (sum_of plan words) (2 ^ plan.shift)) ≡ false)
 Suits Word plan words = unsigned_abs plan.constant + magnitudes words plan.terms < half_of plan.accumulator
 Suits Watched plan words =
     (unsigned_abs plan.constant + magnitudes words plan.terms < 2 ^ 61) × (plan.accumulator < 62)

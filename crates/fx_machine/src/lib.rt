@@ -1,6 +1,7 @@
 //! Machines that run programs of integer code moment by moment, and mark what went beyond its bits.
 #![tactic(auto)]
 
+mod low_bits;
 mod machine;
 #[cfg(test)]
 mod machine_tests;

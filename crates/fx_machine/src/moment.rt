@@ -1,4 +1,4 @@
-ghost use Rattle.std.specs.Prelude.{◌≡◌, ◌≢◌, ℕ, ◌+◌, ◌<◌, ◌≤◌, cond, length, map, All};
+ghost use Rattle.std.specs.Prelude.{◌≡◌, ◌≢◌, ℕ, ◌+◌, ◌<◌, ◌≤◌, cond, false, length, map, All};
 ghost use Rattle.std.specs.Int.{bit_at};
 ghost use Rattle.fx_code.specs.Fits.{CodeFits};
 ghost use Rattle.fx_machine.specs.Prepared.{word_in};
@@ -6,7 +6,7 @@ ghost use Rattle.fx_machine.specs.Standing.{rows_done, WordsFit, ArePrepared, Be
 
 use crate::places::{FIRST_INPUT, FIRST_OLD, WORD_COUNT};
 use crate::prepared::PreparedRow;
-use crate::sums::row_outcome;
+use crate::sums::{Outcome, row_outcome};
 use fx_code::{CODE_ROWS, Program};
 use fx_eqs::PORTS;
 
@@ -65,6 +65,26 @@ fn with_bit(marks: u64, i: usize, bit: bool) -> u64
     if bit { marks | 1 << i } else { marks }
 }
 
+// Marks with those of row i.
+fn with_row(marks: Marks, i: usize, outcome: Outcome) -> Marks
+    requires place { i < 64 }
+    requires partial { bit_at marks.partial i ≡ 0 }
+    requires lost { bit_at marks.lost i ≡ 0 }
+    requires marked { outcome.marked ≡ false → (outcome.partial ≡ false) × (outcome.lost ≡ false) }
+    ensures partial { bit_at result.partial i ≡ cond outcome.partial 1 0 }
+    ensures lost { bit_at result.lost i ≡ cond outcome.lost 1 0 }
+    ensures other_partial { (j : ℕ) → j ≢ i → bit_at result.partial j ≡ bit_at marks.partial j }
+    ensures other_lost { (j : ℕ) → j ≢ i → bit_at result.lost j ≡ bit_at marks.lost j }
+{
+    if !outcome.marked {
+        return marks;
+    }
+    Marks {
+        partial: with_bit(marks.partial, i, outcome.partial),
+        lost: with_bit(marks.lost, i, outcome.lost),
+    }
+}
+
 // Computes the rows of a moment in their order.
 pub fn run_rows(program: &Program, rows: &[PreparedRow], words: &mut [i64]) -> Marks
     requires fits { CodeFits program.now }
@@ -82,8 +102,7 @@ pub fn run_rows(program: &Program, rows: &[PreparedRow], words: &mut [i64]) -> M
     for i in 0..program.rows() {
         let outcome = row_outcome(&rows[i], words);
         words[i] = outcome.word;
-        marks.partial = with_bit(marks.partial, i, outcome.partial);
-        marks.lost = with_bit(marks.lost, i, outcome.lost);
+        marks = with_row(marks, i, outcome);
     }
     marks
 }

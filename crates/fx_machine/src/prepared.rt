@@ -8,6 +8,13 @@ ghost use Rattle.fx_machine.specs.Prepared.{
   is_one,
   is_word,
   is_copy,
+  is_negative,
+  depth_of,
+  height_of,
+  depth,
+  height,
+  is_sure,
+  kept_kind,
   sum_kind,
   kind_of,
   greatest,
@@ -17,6 +24,7 @@ ghost use Rattle.fx_machine.specs.Prepared.{
 };
 ghost use Rattle.fx_machine.specs.Standing.{ArePrepared};
 
+use crate::low_bits::{is_outside_128, quotient};
 use crate::places::{FIRST_INPUT, FIRST_OLD};
 use fx_code::{CODE_TERMS, COEFFICIENT_BITS, CodeTerm, LONGEST_SHIFT, Program, Read};
 use fx_math::GREATEST_WIDTH;
@@ -27,6 +35,8 @@ use std::alloc::{AllocError, Global};
 pub enum Kind {
     // As the word of its one source, which is no wider.
     Copy,
+    // By sums within the accumulator's bits, which are kept as words.
+    Sure,
     // By sums within the accumulator's bits; the word may lose bits.
     Word,
     // By sums within 62 bits, which may leave the accumulator.
@@ -151,14 +161,104 @@ fn is_copy(program: &Program, i: usize) -> bool
     program.shift(i) == 0 && terms.len() == 1 && is_word(program, program.width(i), &terms[0])
 }
 
-// The kind of a row that is no copy, by the greatest magnitude of its sums.
-fn sum_kind(bits: u8, sum: u128) -> Kind
+// Whether a number lies below 0.
+fn is_negative(z: i128) -> bool
+    ensures { result ≡ is_negative z }
+{
+    z < 0
+}
+
+// How far below 0 a number times a word may lie, where half of the words lie below 0.
+fn depth_of(weight: i128, half: u64) -> u128
+    requires weight { unsigned_abs weight < 2 ^ COEFFICIENT_BITS }
+    requires half { half ≤ 2 ^ 31 }
+    ensures value { result ≡ depth_of weight half }
+    ensures bound { result ≤ 2 ^ 93 }
+{
+    let word = if is_negative(weight) {
+        half.saturating_sub(1)
+    } else {
+        half
+    };
+    times(weight.unsigned_abs(), word)
+}
+
+// How far above 0 a number times a word may lie, where half of the words lie below 0.
+fn height_of(weight: i128, half: u64) -> u128
+    requires weight { unsigned_abs weight < 2 ^ COEFFICIENT_BITS }
+    requires half { half ≤ 2 ^ 31 }
+    ensures value { result ≡ height_of weight half }
+    ensures bound { result ≤ 2 ^ 93 }
+{
+    let word = if is_negative(weight) {
+        half
+    } else {
+        half.saturating_sub(1)
+    };
+    times(weight.unsigned_abs(), word)
+}
+
+// How far below 0 the sum of the terms of row i may lie.
+fn depth(program: &Program, i: usize) -> u128
+    requires { i < length program.now.rows }
+    ensures value { result ≡ depth program.now (row_at program.now i).terms }
+    ensures bound { result ≤ CODE_TERMS * 2 ^ 93 }
+{
+    let mut sum = 0;
+    for term in program.terms(i) {
+        sum += depth_of(term.weight(), limit_of(program, term.from));
+    }
+    sum
+}
+
+// How far above 0 the sum of the terms of row i may lie.
+fn height(program: &Program, i: usize) -> u128
+    requires { i < length program.now.rows }
+    ensures value { result ≡ height program.now (row_at program.now i).terms }
+    ensures bound { result ≤ CODE_TERMS * 2 ^ 93 }
+{
+    let mut sum = 0;
+    for term in program.terms(i) {
+        sum += height_of(term.weight(), limit_of(program, term.from));
+    }
+    sum
+}
+
+// Whether the least and the greatest sum of row i, floored by its shift, are words of the row.
+fn is_sure(program: &Program, i: usize) -> bool
+    requires { i < length program.now.rows }
+    ensures { result ≡ is_sure program.now (row_at program.now i) }
+{
+    let constant = i128::from(program.constant(i));
+    let least = quotient(constant - depth(program, i) as i128, program.shift(i));
+    let most = quotient(constant + height(program, i) as i128, program.shift(i));
+    let width = program.width(i);
+    let low = is_outside_128(least, width);
+    let high = is_outside_128(most, width);
+    !(low | high)
+}
+
+// The kind of row i, where its sums stay within the accumulator.
+fn kept_kind(program: &Program, i: usize) -> Kind
+    requires { i < length program.now.rows }
+    ensures { result ≡ kept_kind program.now (row_at program.now i) }
+{
+    if is_sure(program, i) {
+        Kind::Sure
+    } else {
+        Kind::Word
+    }
+}
+
+// The kind of a row that is no copy, by the greatest magnitude of its sums, and its kind where they stay within the
+// accumulator.
+fn sum_kind(bits: u8, sum: u128, kept: Kind) -> Kind
     requires low { 1 ≤ bits }
     requires high { bits ≤ 64 }
-    ensures { result ≡ sum_kind bits sum }
+    ensures { result ≡ sum_kind bits sum kept }
 {
     if sum < 1 << (bits - 1) {
-        Kind::Word
+        kept
     } else if sum < 1 << 61 {
         Kind::Watched
     } else {
@@ -175,7 +275,7 @@ fn kind_of(program: &Program, i: usize) -> Kind
         return Kind::Copy;
     }
     let sum = u128::from(program.constant(i).unsigned_abs()) + greatest(program, i);
-    sum_kind(program.accumulator(), sum)
+    sum_kind(program.accumulator(), sum, kept_kind(program, i))
 }
 
 // A term with its coefficient shifted to the left.

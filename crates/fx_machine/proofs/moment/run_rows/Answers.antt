@@ -38,8 +38,8 @@ loop-i-preserved c =
     record {
       words = rw (word, done) (sym (done_next p c.args.words.now i));
       fit = rw word (fit_kept p c.loop-i.words i _ c.requires.fits c.loop-i.invariant.fit below);
-      partial = bits_more _ i _ _ c.loop-i.invariant.partial (rw partial at c.with_bit.ensures.here)
-          c.with_bit.ensures.others;
-      lost = bits_more _ i _ _ c.loop-i.invariant.lost (rw lost at c.with_bit-in-loop-i.ensures.here)
-          c.with_bit-in-loop-i.ensures.others;
+      partial = bits_more _ i _ _ c.loop-i.invariant.partial (rw partial at c.with_row-marks.ensures.partial)
+          c.with_row-marks.ensures.other_partial;
+      lost = bits_more _ i _ _ c.loop-i.invariant.lost (rw lost at c.with_row-marks.ensures.lost)
+          c.with_row-marks.ensures.other_lost;
     }

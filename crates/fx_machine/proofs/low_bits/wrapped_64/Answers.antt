@@ -6,7 +6,7 @@ use Rattle.fx_math.specs.Division.{floor_div}
 use Rattle.fx_math.specs.Residue.{wrap, FitsBits}
 use Rattle.fx_math.proofs.Residue.{residue_range}
 use Rattle.fx_machine.proofs.Bits.{wrap_is}
-use Rattle.fx_machine.proofs.sums.wrapped_64.Goals as goal
+use Rattle.fx_machine.proofs.low_bits.wrapped_64.Goals as goal
 
 half_low : (bits : ℕ) → bits ≤ 61 → 2 ^ (bits - 1) ≤ 2 ^ 60
 half_low bits h = let e : bits - 1 ≤ 60 = omega (arith, h) in pow-le-pow_right (lit< tt) e

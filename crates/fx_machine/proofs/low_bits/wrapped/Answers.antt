@@ -2,7 +2,7 @@ use Rattle.std.proofs.Common.{◌≡◌, ◌∙◌, arith, ap}
 use Rattle.std.proofs.lemmas.Int.{ints}
 use Rattle.std.specs.Int.{w128, cast_unsigned as of_z, cast_signed as to_z}
 use Rattle.fx_math.specs.Residue.{wrap}
-use Rattle.fx_machine.proofs.sums.wrapped.Goals as goal
+use Rattle.fx_machine.proofs.low_bits.wrapped.Goals as goal
 
 pub returns : goal.returns
 returns c =

@@ -5,7 +5,7 @@ use Rattle.fx_math.specs.Division.{floor_div}
 use Rattle.std.proofs.Math.Nat.{pow-le-pow_right}
 use Rattle.std.proofs.lemmas.Nat.{pow_pos}
 use Rattle.fx_machine.proofs.Bits.{high_near}
-use Rattle.fx_machine.proofs.sums.high_bits_64.Goals as goal
+use Rattle.fx_machine.proofs.low_bits.high_bits_64.Goals as goal
 
 small : (bits : ℕ) (z : ℤ) → bits ≤ 61 → unsigned_abs z ≤ 2 ^ 62 →
     unsigned_abs (floor_div z (2 ^ bits) *ℤ pos (2 ^ bits)) < 2 ^ 63

@@ -3,7 +3,7 @@ use Rattle.std.proofs.lemmas.Int.{ints}
 use Rattle.std.specs.Int.{w64, cast_unsigned as of_z, cast_signed as to_z}
 use Rattle.fx_machine.specs.Prepared.{is_beyond, is_outside}
 use Rattle.fx_machine.proofs.Bits.{wrap_inside, half_small}
-use Rattle.fx_machine.proofs.sums.read_64.Goals as goal
+use Rattle.fx_machine.proofs.low_bits.read_64.Goals as goal
 
 pub is_beyond-requires : goal.is_beyond-requires
 is_beyond-requires c = rw c.requires.half (half_small c.args.bits 62 (omega (arith, c.requires.high)))

@@ -6,7 +6,7 @@ use Rattle.fx_math.specs.Division.{floor_div}
 use Rattle.fx_math.specs.Residue.{wrap, FitsBits}
 use Rattle.fx_math.proofs.Residue.{residue_range}
 use Rattle.fx_machine.proofs.Bits.{wrap_is}
-use Rattle.fx_machine.proofs.sums.residue.Goals as goal
+use Rattle.fx_machine.proofs.low_bits.residue.Goals as goal
 
 pub returns : goal.returns
 returns c =

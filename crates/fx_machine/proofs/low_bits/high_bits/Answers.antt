@@ -3,7 +3,7 @@ use Rattle.std.specs.Int.{w128, cast_unsigned as of_z, cast_signed as to_z}
 use Rattle.std.proofs.lemmas.Int.{ints}
 use Rattle.fx_math.specs.Division.{floor_div}
 use Rattle.fx_machine.proofs.Bits.{high_small}
-use Rattle.fx_machine.proofs.sums.high_bits.Goals as goal
+use Rattle.fx_machine.proofs.low_bits.high_bits.Goals as goal
 
 pub shifted-requires-clause-fits : goal.shifted-requires-clause-fits
 shifted-requires-clause-fits c =

@@ -5,7 +5,7 @@ use Rattle.std.specs.Int.{w64, w128, cast_unsigned as of_z, cast_signed as to_z}
 use Rattle.fx_math.specs.Residue.{FitsBits}
 use Rattle.fx_machine.specs.Prepared.{is_outside}
 use Rattle.fx_machine.proofs.Bits.{wrap_inside, fits_from}
-use Rattle.fx_machine.proofs.sums.read_128.Goals as goal
+use Rattle.fx_machine.proofs.low_bits.read_128.Goals as goal
 
 pub returns-clause-value : goal.returns-clause-value
 returns-clause-value c =

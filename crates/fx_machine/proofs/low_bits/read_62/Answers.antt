@@ -3,7 +3,7 @@ use Rattle.std.proofs.lemmas.Int.{ints}
 use Rattle.std.specs.Int.{w64, cast_unsigned as of_z, cast_signed as to_z}
 use Rattle.fx_math.specs.Residue.{wrap}
 use Rattle.fx_machine.proofs.Bits.{inside_where, outside_where}
-use Rattle.fx_machine.proofs.sums.read_62.Goals as goal
+use Rattle.fx_machine.proofs.low_bits.read_62.Goals as goal
 
 pub returns-then-value-z-clause-lost : goal.returns-then-value-z-clause-lost
 returns-then-value-z-clause-lost c =
