@@ -1,16 +1,13 @@
 -- The two roundings of a quotient, from those of its magnitude.
-use Rattle.std.proofs.Common.{◌≡◌, ℕ, zero, suc, ◌*◌, ◌/◌, ◌%◌, ◌^◌, ◌<◌, arith, refl, ℤ, pos, negsuc, ◌*ℤ◌, neg_ℤ, ◌≤ℤ◌, unsigned_abs}
+use Rattle.std.proofs.Common.{◌≡◌, ℕ, zero, suc, ◌*◌, ◌/◌, ◌%◌, ◌^◌, ◌<◌, arith, refl, ℤ, pos, negsuc, ◌*ℤ◌, neg_ℤ, unsigned_abs}
 use Rattle.std.proofs.lemmas.Int.{ints, unsigned_abs-mul}
 use Rattle.std.specs.Int.{div_ceil}
 use Rattle.std.proofs.Common.{le_of_lt, Bool, true, false}
 use mathlib.Core.Bool.{not, beq}
 use lib.Signed.{lt_z}
 use Rattle.std.proofs.Math.Nat.{mul-le-mul_right}
-use Rattle.std.proofs.lemmas.Int.{int_min_is, int_max_is}
 use Rattle.std.proofs.lemmas.Bool.{lt-ltb, ltb-true}
-use Rattle.std.specs.Int.{int_min, int_max}
-use Rattle.fx_nums.specs.Arithmetic.{hull}
-use Rattle.fx_nums.specs.Interval.{point}
+use Rattle.fx_nums.specs.Interval.{Interval}
 use Rattle.fx_nums.specs.Products.{is_exact}
 use Rattle.fx_math.specs.Division.{floor_div, ceil_div}
 use Rattle.fx_math.proofs.Rounding.{ceil_of_positive, floor_of_negative, quotient_is, rest_is}
@@ -79,9 +76,6 @@ small_is_exact w n h k = lt-ltb _ _ (omega (arith, unsigned_abs-mul w n, mul-lt-
     mul-lt-mul : (a b : ℕ) → a < 2 ^ 64 → b < 2 ^ 62 → a * b < 2 ^ 126
     mul-lt-mul a b h k = omega (arith, mul-le-mul_right b (le_of_lt h), k)
 
--- the hull of two ends in order
-pub hull_of_ends : (low high : ℤ) → low ≤ℤ high → hull (point low) (point high) ≡ record { lo = low; hi = high }
-hull_of_ends low high h = ends (omega (arith, ints, int_min_is, h)) (omega (arith, ints, int_max_is, h))
-  where
-    ends : int_min low high ≡ low → int_max low high ≡ high → hull (point low) (point high) ≡ record { lo = low; hi = high }
-    ends e f = rw (e, f) refl
+-- an interval by its ends
+pub same_ends : (i : Interval) (low high : ℤ) → i.lo ≡ low → i.hi ≡ high → i ≡ record { lo = low; hi = high }
+same_ends i low high e f = rw (← e, ← f) refl

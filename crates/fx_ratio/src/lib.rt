@@ -5,8 +5,10 @@
 mod products;
 mod ratio;
 mod ratios;
+mod span;
 #[cfg(test)]
 mod tests;
 
 pub use ratio::Ratio;
 pub use ratios::Ratios;
+pub use span::Span;

@@ -3,8 +3,9 @@
 ghost use Rattle.std.specs.Prelude.{◌≡◌, ◌+◌, ◌*◌, ◌/◌, ◌^◌, ◌<◌, ◌≤◌, ◌*ℤ◌, unsigned_abs};
 ghost use Rattle.std.specs.Int.{div_ceil};
 ghost use Rattle.fx_math.specs.Division.{floor_div, ceil_div};
-ghost use Rattle.fx_nums.specs.declared.limits.TheConstants.{PRODUCT_BITS};
 ghost use Rattle.fx_ratio.specs.Kept.{IsRatio};
+
+use crate::span::Span;
 
 // `x * ratio / 2^64` rounded down.
 #[inline]
@@ -33,36 +34,32 @@ fn parts(x: u64, mag: u64, den: u128, ratio: u128) -> (u128, u128)
     }
 }
 
-// `x * mag / den` rounded down and rounded up.
+// `x * mag / den` rounded down, and by how much it is more where it is rounded up.
 #[inline]
 #[tactic(auto, using(crate::proofs::Guesses::quotient_is, crate::proofs::Guesses::rest_is))]
-fn magnitudes(x: u64, mag: u64, den: u128, ratio: u128) -> (u128, u128)
+fn magnitude(x: u64, mag: u64, den: u128, ratio: u128) -> (u128, u128)
     requires { IsRatio mag den ratio }
     ensures floor { result.0 ≡ x * mag / den }
-    ensures ceil { result.1 ≡ div_ceil (x * mag) den }
-    ensures floor_in { result.0 < 2 ^ PRODUCT_BITS }
-    ensures ceil_in { result.1 ≤ 2 ^ PRODUCT_BITS }
+    ensures ceil { result.0 + result.1 ≡ div_ceil (x * mag) den }
+    ensures floor_in { result.0 < 2 ^ 88 }
+    ensures apart { result.1 ≤ 1 }
 {
     let (floor, rest) = parts(x, mag, den, ratio);
-    if rest == 0 {
-        (floor, floor)
-    } else {
-        (floor, floor + 1)
-    }
+    if rest == 0 { (floor, 0) } else { (floor, 1) }
 }
 
-// `w * num / den` rounded down and rounded up, from the ratio of the magnitude of `num`.
+// From `w * num / den` rounded down to `w * num / den` rounded up, from the ratio of the magnitude of `num`.
 #[inline]
-pub(crate) fn small_ends(w: i128, num: i64, den: u128, ratio: u128) -> (i128, i128)
+pub(crate) fn small_span(w: i128, num: i64, den: u128, ratio: u128) -> Span
     requires small { unsigned_abs w < 2 ^ 64 }
     requires kept { IsRatio (unsigned_abs num) den ratio }
-    ensures floor { result.0 ≡ floor_div (w *ℤ num) den }
-    ensures ceil { result.1 ≡ ceil_div (w *ℤ num) den }
+    ensures floor { result.lo ≡ floor_div (w *ℤ num) den }
+    ensures ceil { result.hi ≡ ceil_div (w *ℤ num) den }
 {
-    let (floor, ceil) = magnitudes(w.unsigned_abs() as u64, num.unsigned_abs(), den, ratio);
+    let (floor, apart) = magnitude(w.unsigned_abs() as u64, num.unsigned_abs(), den, ratio);
     if (w < 0) != (num < 0) {
-        (-(ceil as i128), -(floor as i128))
+        Span::above(-((floor + apart) as i128), apart)
     } else {
-        (floor as i128, ceil as i128)
+        Span::above(floor as i128, apart)
     }
 }

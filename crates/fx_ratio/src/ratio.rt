@@ -3,8 +3,9 @@ ghost use Rattle.fx_nums.specs.Arithmetic.{multiple};
 ghost use Rattle.fx_nums.specs.Fraction.{den_value};
 ghost use Rattle.fx_nums.specs.Products.{IsRoundedProduct};
 
-use crate::products::small_ends;
-use fx_nums::{FACTOR_BITS, Frac, Iv, mul_ends};
+use crate::products::small_span;
+use crate::span::Span;
+use fx_nums::{FACTOR_BITS, Frac, mul_ends};
 use std::marker::Model;
 
 /// A fraction with its denominator as a number and its magnitude times 2^64, rounded down, kept beside it.
@@ -52,28 +53,29 @@ impl Ratio {
         self.fraction
     }
 
-    /// `w` times the fraction, rounded down and rounded up: what `fx_nums::mul_ends` answers. A `w` of 2^64 or more in
-    /// magnitude takes as long as there.
+    /// The product of `w / 2^64` with the fraction, rounded outward: what `Iv::multiple` answers. A `w` of 2^64 or more
+    /// in magnitude takes as long as there.
+    #[inline]
+    pub fn multiple(self, w: i128) -> Span
+        requires { unsigned_abs w < 2 ^ FACTOR_BITS }
+        ensures ends { result ≡ multiple w self }
+        ensures rounded { IsRoundedProduct w self.num (den_value self.den) result.lo result.hi }
+    {
+        if w.unsigned_abs() < 1 << u64::BITS {
+            small_span(w, self.fraction.num(), self.den, self.ratio)
+        } else {
+            let (low, high) = mul_ends(w, self.fraction);
+            Span::between(low, high)
+        }
+    }
+
+    /// `w` times the fraction, rounded down and rounded up: what `fx_nums::mul_ends` answers.
     #[inline]
     pub fn mul_ends(self, w: i128) -> (i128, i128)
         requires { unsigned_abs w < 2 ^ FACTOR_BITS }
         ensures { IsRoundedProduct w self.num (den_value self.den) result.0 result.1 }
     {
-        if w.unsigned_abs() < 1 << u64::BITS {
-            small_ends(w, self.fraction.num(), self.den, self.ratio)
-        } else {
-            mul_ends(w, self.fraction)
-        }
-    }
-
-    /// The product of `w / 2^64` with the fraction, rounded outward: what `Iv::multiple` answers.
-    #[inline]
-    pub fn multiple(self, w: i128) -> Iv
-        requires { unsigned_abs w < 2 ^ FACTOR_BITS }
-        ensures ends { result ≡ multiple w self }
-        ensures rounded { IsRoundedProduct w self.num (den_value self.den) result.lo result.hi }
-    {
-        let (low, high) = self.mul_ends(w);
-        Iv::point(low).hull(Iv::point(high))
+        let product = self.multiple(w);
+        (product.lo(), product.hi())
     }
 }

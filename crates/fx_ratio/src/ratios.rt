@@ -4,7 +4,8 @@ ghost use Rattle.fx_nums.specs.Fraction.{den_value};
 ghost use Rattle.fx_nums.specs.Products.{IsRoundedProduct};
 
 use crate::ratio::Ratio;
-use fx_nums::{FACTOR_BITS, Frac, Iv};
+use crate::span::Span;
+use fx_nums::{FACTOR_BITS, Frac};
 use std::alloc::{AllocError, Global};
 
 /// The ratios of the coefficients of a table, each at the place of its coefficient.
@@ -43,7 +44,7 @@ impl Ratios {
     /// The product of `w / 2^64` with the coefficient at a place, rounded outward: what `Iv::multiple` answers. Only
     /// where the coefficient is new at its place, or there is no room for it, does this take a division.
     #[inline]
-    pub fn multiple(&mut self, place: usize, w: i128, coef: Frac) -> Iv
+    pub fn multiple(&mut self, place: usize, w: i128, coef: Frac) -> Span
         requires { unsigned_abs w < 2 ^ FACTOR_BITS }
         ensures ends { result ≡ multiple w coef }
         ensures rounded { IsRoundedProduct w coef.num (den_value coef.den) result.lo result.hi }

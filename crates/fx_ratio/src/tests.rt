@@ -1,5 +1,5 @@
-use crate::{Ratio, Ratios};
-use fx_nums::{Den, Frac, Iv, mul_ends};
+use crate::{Ratio, Ratios, Span};
+use fx_nums::{Den, Frac, mul_ends};
 use std::test::Fail;
 
 fn fraction(num: i64, den: Den) -> Frac {
@@ -35,10 +35,10 @@ fn wide_weights_are_widened(rt: HostRuntime) -> Result<(), Fail> {
 fn each_place_has_its_coefficient(rt: HostRuntime) -> Result<(), Fail> {
     let mut ratios = Ratios::new(rt.alloc(), 2)?;
     let (three, tenth) = (fraction(3, Den::Ten(0)), fraction(1, Den::Ten(1)));
-    assert_eq!(rt; ratios.multiple(0, 7, three), Iv::point(21));
-    assert_eq!(rt; ratios.multiple(1, 20, tenth), Iv::point(2));
-    assert_eq!(rt; ratios.multiple(0, 7, three), Iv::point(21));
-    assert_eq!(rt; ratios.multiple(0, 30, tenth), Iv::point(3));
-    assert_eq!(rt; ratios.multiple(2, 40, tenth), Iv::point(4));
+    assert_eq!(rt; ratios.multiple(0, 7, three), Span::point(21));
+    assert_eq!(rt; ratios.multiple(1, 20, tenth), Span::point(2));
+    assert_eq!(rt; ratios.multiple(0, 7, three), Span::point(21));
+    assert_eq!(rt; ratios.multiple(0, 30, tenth), Span::point(3));
+    assert_eq!(rt; ratios.multiple(2, 40, tenth), Span::point(4));
     Ok(())
 }

@@ -1,5 +1,5 @@
 -- Moments that repeat the one before them.
-use Rattle.std.proofs.Common.{◌≡◌, ◌≢◌, ℕ, suc, ◌+◌, ◌*◌, ◌<◌, ◌≤◌, ◌⊎◌, inl, inr, List, length, arith, refl, sym}
+use Rattle.std.proofs.Common.{◌≡◌, ◌≢◌, ℕ, suc, ◌+◌, ◌*◌, ◌<◌, ◌≤◌, ◌⊎◌, inl, inr, List, arith, refl, sym}
 use Rattle.std.proofs.Common.{ap, ◌∙◌, subst, unsigned_abs}
 use Rattle.std.proofs.Math.IntN.{ℤ, pos, ◌+ℤ◌, ◌*ℤ◌}
 use Rattle.std.proofs.lemmas.Bool.{cases_lt}
@@ -24,6 +24,24 @@ nothing_in n xs e = ap interval_in e ∙ fun_ext (λ i. by_place i (cases_lt i n
     by_place i (inl h) = get_or-replicate n i (point (pos 0)) (point (pos 0)) h
     by_place i (inr h) = get_or_past (replicate n (point (pos 0))) i (point (pos 0))
         (omega (arith, h, length-replicate n (point (pos 0))))
+
+pub no_widths : (n : ℕ) (xs : List ℤ) → xs ≡ replicate n (pos 0) → whole_in xs ≡ (λ i. pos 0)
+no_widths n xs e = ap whole_in e ∙ fun_ext (λ i. by_place i (cases_lt i n))
+  where
+    by_place : (i : ℕ) → (i < n) ⊎ (n ≤ i) → whole_in (replicate n (pos 0)) i ≡ pos 0
+    by_place i (inl h) = get_or-replicate n i (pos 0) (pos 0) h
+    by_place i (inr h) = get_or_past (replicate n (pos 0)) i (pos 0) (omega (arith, h, length-replicate n (pos 0)))
+
+pub no_gains : (n : ℕ) (xs : List ℕ) → xs ≡ replicate n 0 → gain_in xs ≡ (λ i. 0)
+no_gains n xs e = ap gain_in e ∙ fun_ext (λ i. by_place i (cases_lt i n))
+  where
+    by_place : (i : ℕ) → (i < n) ⊎ (n ≤ i) → gain_in (replicate n 0) i ≡ 0
+    by_place i (inl h) = get_or-replicate n i 0 0 h
+    by_place i (inr h) = get_or_past (replicate n 0) i 0 (omega (arith, h, length-replicate {A = ℕ} n 0))
+
+-- an interval is its ends
+pub by_ends : (a b : Interval) → a.lo ≡ b.lo → a.hi ≡ b.hi → a ≡ b
+by_ends a b e f = λ i. record { lo = e i; hi = f i }
 
 -- what is added up, with k times what these intervals add
 abbrev pub widened : ℕ → (ℕ → ℤ) → (ℕ → Interval) → ℕ → ℤ

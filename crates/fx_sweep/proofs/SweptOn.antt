@@ -1,18 +1,18 @@
 -- A sweep after a moment, or after several that repeat it.
-use Rattle.std.proofs.Common.{◌≡◌, ◌≢◌, ℕ, suc, ◌+◌, ◌-◌, ◌*◌, ◌<◌, ◌≤◌, ◌⊎◌, inl, inr, None, arith, refl, sym}
-use Rattle.std.proofs.Common.{ap, ◌∙◌, subst, unsigned_abs}
+use Rattle.std.proofs.Common.{◌≡◌, ◌≢◌, ℕ, suc, ◌+◌, ◌-◌, ◌≤◌, ◌⊎◌, inl, inr, None, arith, refl, sym}
+use Rattle.std.proofs.Common.{ap, ◌∙◌, subst}
 use Rattle.std.proofs.Math.IntN.{ℤ, pos, ◌+ℤ◌, ◌*ℤ◌}
 use Rattle.std.proofs.lemmas.Bool.{cases_eq}
 use Rattle.std.proofs.lemmas.Int.{ints}
 use mathlib.Core.Path.{fun_ext}
 use Rattle.fx_net.specs.Net.{Net}
 use Rattle.fx_nums.specs.Arithmetic.{width}
-use Rattle.fx_nums.specs.Interval.{Interval, magnitude}
+use Rattle.fx_nums.specs.Interval.{Interval}
 use Rattle.fx_sweep.specs.Gains.{widths, row_gain, input_gain}
 use Rattle.fx_sweep.specs.Range.{range_at}
 use Rattle.fx_sweep.specs.Standing.{GainsAreBelow, Stands}
 use Rattle.fx_sweep.specs.Steps.{GainsFit, IsMoved, settled_rows, state_of}
-use Rattle.fx_sweep.specs.Swept.{Swept, gain_in, interval_in, last_inputs, whole_in}
+use Rattle.fx_sweep.specs.Swept.{Swept, gain_in, last_inputs, whole_in}
 use Rattle.fx_sweep.specs.Target.{start_of}
 use Rattle.fx_sweep.specs.Weights.{carried, carry, settle, settled, to_input}
 use Rattle.fx_sweep.specs.declared.numbers.Numbers.{Numbers}

@@ -9,10 +9,37 @@ ghost use Rattle.fx_sweep.specs.Swept.{interval_in};
 ghost use Rattle.fx_sweep.specs.Weights.{taken};
 
 use fx_cross::{Cross, entries_have_places};
-use fx_nums::{Frac, Iv, SUMMAND_BITS};
+use fx_eqs::PORTS;
+use fx_net::LARGEST_NET;
+use fx_nums::{Frac, SUMMAND_BITS};
+use fx_ratio::{Ratios, Span};
+use std::alloc::{AllocError, Global};
 
-// Adds the multiple of a weight, the low end of a row's interval, by a coefficient to one interval.
-fn add_multiple(at: &mut [Iv], j: usize, row: Iv, coef: Frac)
+// The ratios of a net's coefficients, table by table.
+#[derive(Drop)]
+pub struct NetRatios {
+    pub now: Ratios,
+    pub old: Ratios,
+    pub inputs: Ratios,
+}
+
+impl NetRatios {
+    // Room for those of a net with so many rows. Its error is want of memory.
+    pub fn new(alloc: Global, rows: usize) -> Result<NetRatios, AllocError>
+        requires { rows ≤ LARGEST_NET }
+    {
+        Ok(NetRatios {
+            now: Ratios::new(alloc, rows * rows)?,
+            old: Ratios::new(alloc, rows * rows)?,
+            inputs: Ratios::new(alloc, rows * PORTS)?,
+        })
+    }
+}
+
+// Adds the multiple of a weight, the low end of a row's interval, by the coefficient at a place of a table to one
+// interval.
+#[inline]
+fn add_multiple(at: &mut [Span], j: usize, row: Span, coef: Frac, place: usize, ratios: &mut Ratios)
     requires place { j < length at.old }
     requires weight { unsigned_abs row.lo ≤ greatest }
     requires room { IntervalFits (interval_in at.old j) SUMMAND_BITS }
@@ -22,12 +49,12 @@ fn add_multiple(at: &mut [Iv], j: usize, row: Iv, coef: Frac)
     ensures narrow { (b w : ℕ) → IsNarrow b w (interval_in at.old j) →
         IsNarrow (b + product_bound) (w + product_apart) (interval_in at.new j) }
 {
-    let product = Iv::multiple(row.lo(), coef);
+    let product = ratios.multiple(place, row.lo(), coef);
     at[j] = at[j].add(product);
 }
 
 // Adds the multiples of a weight, the low end of a row's interval, by the coefficients of row `i` of a table.
-pub fn add_row(table: &Cross, i: usize, row: Iv, at: &mut [Iv])
+pub fn add_row(table: &Cross, i: usize, row: Span, at: &mut [Span], ratios: &mut Ratios)
     requires inside { i < table.now.rows }
     requires columns { table.now.columns ≤ length at.old }
     requires weight { unsigned_abs row.lo ≤ greatest }
@@ -41,12 +68,19 @@ pub fn add_row(table: &Cross, i: usize, row: Iv, at: &mut [Iv])
         return;
     }
     for link in table.row(i) {
-        add_multiple(at, usize::from(link.index), row, link.coef);
+        add_multiple(
+            at,
+            usize::from(link.index),
+            row,
+            link.coef,
+            link.place as usize,
+            ratios,
+        );
     }
 }
 
 // Sets intervals to what the rows of a table take with their weights, the low ends of their intervals.
-pub fn hand_out(table: &Cross, weights: &[Iv], at: &mut [Iv])
+pub fn hand_out(table: &Cross, weights: &[Span], at: &mut [Span], ratios: &mut Ratios)
     requires rows { length weights.now ≡ table.now.rows }
     requires few { length weights.now ≤ 64 }
     requires columns { table.now.columns ≤ length at.old }
@@ -56,8 +90,8 @@ pub fn hand_out(table: &Cross, weights: &[Iv], at: &mut [Iv])
         ≡ (λ j. taken (length weights.now) (interval_in weights.now) (λ i. entry_at table.now i j)) }
     ensures narrow { AreNarrow (length weights.now * product_bound) (length weights.now * product_apart) at.new }
 {
-    at.fill(Iv::point(0));
+    at.fill(Span::point(0));
     for i in 0..weights.len() {
-        add_row(table, i, weights[i], at);
+        add_row(table, i, weights[i], at, ratios);
     }
 }

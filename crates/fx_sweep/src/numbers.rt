@@ -59,14 +59,15 @@ ghost use Rattle.fx_sweep.specs.Swept.{gain_in, interval_in, range_of, whole_in,
 ghost use Rattle.fx_sweep.specs.Target.{TargetFits, power, start_of};
 ghost use Rattle.fx_sweep.specs.Weights.{carry, settle, to_input};
 
-use crate::handing::{add_row, hand_out};
+use crate::handing::{NetRatios, add_row, hand_out};
 use crate::limits::{GREATEST_LENGTH, GREATEST_SHIFT};
 use crate::repeating::{are_same, have_room, raise_inputs, raise_rows, widen_rows};
 use crate::target::{Place, RangeAt, Target};
 use fx_cross::Cross;
 use fx_eqs::PORTS;
-use fx_net::{Net, Which, nets_fit};
-use fx_nums::{Iv, OPERAND_BITS, SCALE_BITS, SUMMAND_BITS};
+use fx_net::{LARGEST_NET, Net, Which, nets_fit};
+use fx_nums::{OPERAND_BITS, SCALE_BITS, SUMMAND_BITS};
+use fx_ratio::{Ratios, Span};
 use std::alloc::{AllocError, Global};
 use std::mem;
 
@@ -74,21 +75,23 @@ use std::mem;
 #[derive(Drop)]
 pub struct Numbers {
     // What is carried to each row of the moment before.
-    pub carried: Vec<Iv>,
+    pub carried: Vec<Span>,
     // The intervals of this moment's rows.
-    pub weights: Vec<Iv>,
+    pub weights: Vec<Span>,
     // What was carried to the rows of this moment.
-    pub before: Vec<Iv>,
+    pub before: Vec<Span>,
     // The intervals of this moment's inputs.
-    pub inputs: Vec<Iv>,
+    pub inputs: Vec<Span>,
     // What was added up, times 2^64.
     pub widths: Vec<i128>,
     pub row_gains: Vec<u128>,
     pub input_gains: Vec<u128>,
+    // What is kept of the net's coefficients.
+    pub ratios: NetRatios,
 }
 
 // The greater magnitude of an interval's ends.
-pub fn magnitude_of(v: Iv) -> u128
+pub fn magnitude_of(v: Span) -> u128
     ensures value { result ≡ magnitude v }
     ensures fits { result < 2 ^ 120 }
 {
@@ -129,7 +132,7 @@ fn raise(gains: &mut [u128], i: usize, by: u128, place: Place) -> Result<(), Ran
 }
 
 // Adds the width of a row's interval to what was added up of it.
-fn widen(widths: &mut [i128], i: usize, row: Iv)
+fn widen(widths: &mut [i128], i: usize, row: Span)
     requires place { i < length widths.old }
     requires near { row.hi ≤ℤ (row.lo +ℤ pos greatest_width) }
     requires fit { WidthsFit (2 ^ 100) widths.old }
@@ -145,9 +148,10 @@ fn widen(widths: &mut [i128], i: usize, row: Iv)
 fn settle_row(
     table: &Cross,
     i: usize,
-    weights: &mut [Iv],
+    weights: &mut [Span],
     widths: &mut [i128],
     gains: &mut [u128],
+    ratios: &mut Ratios,
 ) -> Result<(), RangeAt>
     requires row { i < table.now.rows }
     requires few { i < 64 }
@@ -177,16 +181,17 @@ fn settle_row(
     within(Place::Weight(i as u8), magnitude_of(row))?;
     raise(gains, i, row.lo().unsigned_abs(), Place::Gain(i as u8))?;
     widen(widths, i, row);
-    add_row(table, i, row, weights);
+    add_row(table, i, row, weights, ratios);
     Ok(())
 }
 
 // Takes the rows of a moment from the last to the first, each as its weight; or answers the first range.
 fn settle_rows<const N: usize>(
     net: &Net<N>,
-    weights: &mut [Iv],
+    weights: &mut [Span],
     widths: &mut [i128],
     gains: &mut [u128],
+    ratios: &mut Ratios,
 ) -> Result<(), RangeAt>
     requires weights { length weights.old ≡ N }
     requires widths { length widths.old ≡ N }
@@ -211,13 +216,13 @@ fn settle_rows<const N: usize>(
     nets_fit(net);
     let table = net.links(Which::Now);
     for i in (0..N).rev() {
-        settle_row(table, i, weights, widths, gains)?;
+        settle_row(table, i, weights, widths, gains, ratios)?;
     }
     Ok(())
 }
 
 // Adds up the magnitudes of the inputs' intervals, or answers the first gain that reaches the limit.
-fn add_inputs(inputs: &[Iv], gains: &mut [u128]) -> Result<(), RangeAt>
+fn add_inputs(inputs: &[Span], gains: &mut [u128]) -> Result<(), RangeAt>
     requires inputs { length inputs.now ≡ PORTS }
     requires gains { length gains.old ≡ PORTS }
     requires fit { GainsFit gains.old }
@@ -235,7 +240,7 @@ fn add_inputs(inputs: &[Iv], gains: &mut [u128]) -> Result<(), RangeAt>
 }
 
 // Answers the first interval that is carried and reaches the limit.
-fn test_rests(carried: &[Iv]) -> Result<(), RangeAt>
+fn test_rests(carried: &[Span]) -> Result<(), RangeAt>
     requires few { length carried.now ≤ 64 }
     ensures range { range_of result
         ≡ first_range (rest_value (interval_in carried.now)) (joined (length carried.now) rest_places) }
@@ -250,10 +255,11 @@ fn test_rests(carried: &[Iv]) -> Result<(), RangeAt>
 // Hands the weights of a moment to the inputs and to the moment before; or answers the first range in what they get.
 fn hand_back<const N: usize>(
     net: &Net<N>,
-    weights: &[Iv],
-    inputs: &mut [Iv],
+    weights: &[Span],
+    inputs: &mut [Span],
     gains: &mut [u128],
-    carried: &mut [Iv],
+    carried: &mut [Span],
+    ratios: &mut NetRatios,
 ) -> Result<(), RangeAt>
     requires weights { length weights.now ≡ N }
     requires inputs { length inputs.old ≡ PORTS }
@@ -277,21 +283,22 @@ fn hand_back<const N: usize>(
     ensures gains_fit { GainsFit gains.new }
 {
     nets_fit(net);
-    hand_out(net.links(Which::In), weights, inputs);
+    hand_out(net.links(Which::In), weights, inputs, &mut ratios.inputs);
     add_inputs(inputs, gains)?;
-    hand_out(net.links(Which::Old), weights, carried);
+    hand_out(net.links(Which::Old), weights, carried, &mut ratios.old);
     test_rests(carried)
 }
 
 // One moment, where the intervals of the rows are those that were carried to them.
 fn turn<const N: usize>(
     net: &Net<N>,
-    weights: &mut [Iv],
-    carried: &mut [Iv],
-    inputs: &mut [Iv],
+    weights: &mut [Span],
+    carried: &mut [Span],
+    inputs: &mut [Span],
     widths: &mut [i128],
     row_gains: &mut [u128],
     input_gains: &mut [u128],
+    ratios: &mut NetRatios,
 ) -> Result<(), RangeAt>
     requires weights { length weights.old ≡ N }
     requires carried { length carried.old ≡ N }
@@ -327,8 +334,8 @@ fn turn<const N: usize>(
     ensures row_gains_fit { GainsFit row_gains.new }
     ensures input_gains_fit { GainsFit input_gains.new }
 {
-    settle_rows(net, weights, widths, row_gains)?;
-    hand_back(net, weights, inputs, input_gains, carried)
+    settle_rows(net, weights, widths, row_gains, &mut ratios.now)?;
+    hand_back(net, weights, inputs, input_gains, carried, ratios)
 }
 
 // 64 and a small number.
@@ -350,15 +357,15 @@ fn power_of_two(exponent: u32) -> i128
 }
 
 // 2^shift at the scale of the sweep.
-fn power(shift: i8) -> Iv
+fn power(shift: i8) -> Span
     requires { unsigned_abs shift ≤ unsigned_abs GREATEST_SHIFT }
     ensures { result ≡ point (power shift) }
 {
-    Iv::point(power_of_two(exponent(shift)))
+    Span::point(power_of_two(exponent(shift)))
 }
 
 // Sets what is carried to one row.
-fn put(at: &mut [Iv], i: usize, v: Iv)
+fn put(at: &mut [Span], i: usize, v: Span)
     requires { i < length at.old }
     ensures count { length at.new ≡ length at.old }
     ensures here { interval_in at.new i ≡ v }
@@ -368,7 +375,7 @@ fn put(at: &mut [Iv], i: usize, v: Iv)
 }
 
 // Sets what is carried as the sweep of a target begins, where all is 0.
-fn put_target(at: &mut [Iv], target: Target)
+fn put_target(at: &mut [Span], target: Target)
     requires target { TargetFits (length at.old) target }
     requires zero { interval_in at.old ≡ no_intervals }
     ensures count { length at.new ≡ length at.old }
@@ -390,6 +397,7 @@ fn put_target(at: &mut [Iv], target: Target)
 impl Numbers {
     /// Those of so many rows, all 0. Its error is want of memory.
     pub fn new(alloc: Global, rows: usize) -> Result<Numbers, AllocError>
+        requires { rows ≤ LARGEST_NET }
         ensures long { IfOk result (λ s. AreLong rows s) }
         ensures carried { IfOk result (λ s. interval_in s.carried.items ≡ no_intervals) }
         ensures inputs { IfOk result (λ s. interval_in s.inputs.items ≡ no_intervals) }
@@ -398,13 +406,14 @@ impl Numbers {
         ensures input_gains { IfOk result (λ s. gain_in s.input_gains.items ≡ (λ j. 0)) }
     {
         Ok(Numbers {
-            carried: vec![in alloc; Iv::point(0); rows]?,
-            weights: vec![in alloc; Iv::point(0); rows]?,
-            before: vec![in alloc; Iv::point(0); rows]?,
-            inputs: vec![in alloc; Iv::point(0); PORTS]?,
+            carried: vec![in alloc; Span::point(0); rows]?,
+            weights: vec![in alloc; Span::point(0); rows]?,
+            before: vec![in alloc; Span::point(0); rows]?,
+            inputs: vec![in alloc; Span::point(0); PORTS]?,
             widths: vec![in alloc; 0; rows]?,
             row_gains: vec![in alloc; 0; rows]?,
             input_gains: vec![in alloc; 0; PORTS]?,
+            ratios: NetRatios::new(alloc, rows)?,
         })
     }
 
@@ -416,7 +425,7 @@ impl Numbers {
         ensures row_gains { self.new.row_gains ≡ self.old.row_gains }
         ensures input_gains { self.new.input_gains ≡ self.old.input_gains }
     {
-        self.carried.fill(Iv::point(0));
+        self.carried.fill(Span::point(0));
     }
 
     // Begins the sweep of a target.
@@ -429,8 +438,8 @@ impl Numbers {
         ensures input_gains { gain_in self.new.input_gains.items ≡ (λ j. 0) }
         ensures long { (n : ℕ) → AreLong n self.old → AreLong n self.new }
     {
-        self.carried.fill(Iv::point(0));
-        self.inputs.fill(Iv::point(0));
+        self.carried.fill(Span::point(0));
+        self.inputs.fill(Span::point(0));
         self.widths.fill(0);
         self.row_gains.fill(0);
         self.input_gains.fill(0);
@@ -479,6 +488,7 @@ impl Numbers {
             &mut self.widths,
             &mut self.row_gains,
             &mut self.input_gains,
+            &mut self.ratios,
         )
     }
 

@@ -25,15 +25,24 @@ ghost use Rattle.fx_sweep.specs.Swept.{gain_in, interval_in, whole_in};
 
 use crate::limits::GREATEST_LENGTH;
 use crate::numbers::magnitude_of;
-use fx_nums::{Iv, OPERAND_BITS};
+use fx_nums::OPERAND_BITS;
+use fx_ratio::Span;
+
+// Whether two intervals are the same.
+#[tactic(auto, using(crate::proofs::OnceMore::by_ends))]
+fn is_same(a: Span, b: Span) -> bool
+    ensures { IsTrue result → a ≡ b }
+{
+    a.lo() == b.lo() && a.hi() == b.hi()
+}
 
 // Whether the intervals are the same.
-pub fn are_same(a: &[Iv], b: &[Iv]) -> bool
+pub fn are_same(a: &[Span], b: &[Span]) -> bool
     requires { length b.now ≡ length a.now }
     ensures { IsTrue result → interval_in a.now ≡ interval_in b.now }
 {
     for i in 0..a.len() {
-        if a[i] != b[i] {
+        if !is_same(a[i], b[i]) {
             return false;
         }
     }
@@ -50,7 +59,7 @@ fn has_room(gain: u128, by: u128, times: u16) -> bool
 }
 
 // Whether each gain does, where the magnitude of its interval is added.
-pub fn have_room(gains: &[u128], by: &[Iv], times: u16) -> bool
+pub fn have_room(gains: &[u128], by: &[Span], times: u16) -> bool
     requires count { length by.now ≡ length gains.now }
     requires gains { GainsFit gains.now }
     requires times { 1 ≤ times }
@@ -74,7 +83,7 @@ fn multiple_of(by: u128, times: u16) -> u128
 }
 
 // The magnitude of a row's weight.
-fn weight_of(row: Iv) -> u128
+fn weight_of(row: Span) -> u128
     ensures value { result ≡ unsigned_abs row.lo }
     ensures least { result ≤ magnitude row }
 {
@@ -82,7 +91,7 @@ fn weight_of(row: Iv) -> u128
 }
 
 // That, so many times.
-fn weights_of(row: Iv, times: u16) -> u128
+fn weights_of(row: Span, times: u16) -> u128
     requires { times * magnitude row ≤ greatest }
     ensures value { result ≡ times * unsigned_abs row.lo }
     ensures least { result ≤ times * magnitude row }
@@ -102,7 +111,7 @@ fn add_to(gains: &mut [u128], i: usize, by: u128)
 }
 
 // Adds the weights' magnitudes to the gains of the rows so many times.
-pub fn raise_rows(gains: &mut [u128], weights: &[Iv], times: u16)
+pub fn raise_rows(gains: &mut [u128], weights: &[Span], times: u16)
     requires count { length weights.now ≡ length gains.old }
     requires fit { GainsFit gains.old }
     requires room { (i : ℕ) → i < length gains.old →
@@ -118,7 +127,7 @@ pub fn raise_rows(gains: &mut [u128], weights: &[Iv], times: u16)
 }
 
 // Adds the intervals' magnitudes to the gains of the inputs so many times.
-pub fn raise_inputs(gains: &mut [u128], inputs: &[Iv], times: u16)
+pub fn raise_inputs(gains: &mut [u128], inputs: &[Span], times: u16)
     requires count { length inputs.now ≡ length gains.old }
     requires fit { GainsFit gains.old }
     requires room { (j : ℕ) → j < length gains.old →
@@ -134,7 +143,7 @@ pub fn raise_inputs(gains: &mut [u128], inputs: &[Iv], times: u16)
 }
 
 // The width of a row's interval, so many times.
-fn widths_of(row: Iv, times: u16) -> i128
+fn widths_of(row: Span, times: u16) -> i128
     requires near { row.hi ≤ℤ (row.lo +ℤ pos greatest_width) }
     requires times { times ≤ GREATEST_LENGTH }
     ensures value { result ≡ pos times *ℤ width row }
@@ -145,7 +154,7 @@ fn widths_of(row: Iv, times: u16) -> i128
 }
 
 // Adds the width of a row's interval to what was added up of it so many times.
-fn widen_by(widths: &mut [i128], i: usize, row: Iv, times: u16)
+fn widen_by(widths: &mut [i128], i: usize, row: Span, times: u16)
     requires place { i < length widths.old }
     requires positive { pos 0 ≤ℤ whole_in widths.old i }
     requires fit { whole_in widths.old i ≤ℤ pos (2 ^ 100) }
@@ -161,7 +170,7 @@ fn widen_by(widths: &mut [i128], i: usize, row: Iv, times: u16)
 }
 
 // Adds the widths of the rows' intervals so many times.
-pub fn widen_rows(widths: &mut [i128], weights: &[Iv], times: u16)
+pub fn widen_rows(widths: &mut [i128], weights: &[Span], times: u16)
     requires count { length weights.now ≡ length widths.old }
     requires times { times ≤ GREATEST_LENGTH }
     requires near { AreNear weights.now }

@@ -164,7 +164,7 @@ impl<const N: usize> Sweep<N> {
         requires { j < PORTS }
         ensures { result ≡ input_at self.now j }
     {
-        self.numbers.inputs[j]
+        self.numbers.inputs[j].interval()
     }
 
     /// The gain of input `j`, below `PORTS`, times 2^64: the magnitudes of its intervals, added up. It is below 2^88.
@@ -201,7 +201,7 @@ impl<const N: usize> Sweep<N> {
         ensures value { result ≡ pos (magnitude (carried_at self.now i)) }
         ensures fits { magnitude (carried_at self.now i) < 2 ^ OPERAND_BITS }
     {
-        self.numbers.carried[i].magnitude()
+        self.numbers.carried[i].interval().magnitude()
     }
 
     /// How many moments were made, those that only repeat a range among them. It stays at the greatest u64.

@@ -1,29 +1,30 @@
-use Rattle.std.proofs.Common.{rules, to_z-of_z, ◌≡◌, ◌∙◌}
-use Rattle.std.specs.Int.{w128}
-use Rattle.std.specs.Prelude.{FitsSigned}
-use Rattle.fx_nums.specs.Arithmetic.{multiple}
+use Rattle.std.proofs.Common.{rules, arith, to_z-of_z, ◌≡◌, unsigned_abs, true, ◌*ℤ◌, ◌∙◌, sym}
+use Rattle.fx_math.specs.Division.{floor_div, ceil_div}
 use Rattle.fx_nums.specs.Fraction.{den_value}
-use Rattle.fx_nums.specs.Interval.{point}
-use Rattle.fx_nums.specs.Products.{IsRoundedProduct}
-use Rattle.fx_ratio.proofs.Signs.{hull_of_ends}
+use Rattle.fx_nums.specs.Products.{IsOperands, IsRoundedProduct, is_exact}
+use Rattle.fx_nums.proofs.ProductLaws.{rounded_product, down_exact, up_exact}
+use Rattle.fx_ratio.proofs.Signs.{same_ends, small_is_exact}
 use Rattle.fx_ratio.proofs.ratio.Ratio.multiple.Goals as goal
 
-rounded : (c : goal.After-hull) →
-    IsRoundedProduct c.args.w c.args.self.num (den_value c.args.self.den) c.mul_ends-low.result.0 c.mul_ends-low.result.1
+rounded : (c : goal.After-small_span) → IsRoundedProduct c.args.w c.args.self.num (den_value c.args.self.den)
+    c.small_span.result.lo c.small_span.result.hi
 rounded c =
     let w_fits = c.ranges.w in
-    simp to_z-of_z at c.mul_ends-low.ensures
+    let w = c.args.w in
+    let num = c.args.self.num in
+    let den = den_value c.args.self.den in
+    let operands : IsOperands w num den = search rules in
+    let size : c.unsigned_abs.result ≡ unsigned_abs w = simp to_z-of_z at c.unsigned_abs.ensures.value in
+    let exact : is_exact w num ≡ true =
+    small_is_exact w num (omega (arith, size, c.if-unsigned_abs.true)) operands.num_in in
+    let floor : c.small_span.result.lo ≡ floor_div (w *ℤ num) den = grind (arith, to_z-of_z) in
+    let ceil : c.small_span.result.hi ≡ ceil_div (w *ℤ num) den = grind (arith, to_z-of_z) in
+    rounded_product w num den c.small_span.result.lo c.small_span.result.hi operands
+    (floor ∙ sym (down_exact w num den exact)) (ceil ∙ sym (up_exact w num den exact))
 
-ends : (c : goal.After-hull) → c.hull.result ≡ record { lo = c.mul_ends-low.result.0; hi = c.mul_ends-low.result.1 }
-ends c =
-    let low_fits : FitsSigned w128 c.mul_ends-low.result.0 = search rules in
-    let high_fits : FitsSigned w128 c.mul_ends-low.result.1 = search rules in
-    let low : c.point.result ≡ point c.mul_ends-low.result.0 = simp to_z-of_z at c.point.ensures in
-    let high : c.point-2.result ≡ point c.mul_ends-low.result.1 = simp to_z-of_z at c.point-2.ensures in
-    c.hull.ensures ∙ rw (low, high) (hull_of_ends c.mul_ends-low.result.0 c.mul_ends-low.result.1 (rounded c).ordered)
+pub returns-then-unsigned_abs-clause-ends : goal.returns-then-unsigned_abs-clause-ends
+returns-then-unsigned_abs-clause-ends c =
+    same_ends c.small_span.result _ _ (rounded c).low_is (rounded c).high_is
 
-pub returns-clause-ends : goal.returns-clause-ends
-returns-clause-ends c = ends c ∙ rw ((rounded c).low_is, (rounded c).high_is) (λ i. multiple c.args.w c.args.self)
-
-pub returns-clause-rounded : goal.returns-clause-rounded
-returns-clause-rounded c = rw (ends c) (rounded c)
+pub returns-then-unsigned_abs-clause-rounded : goal.returns-then-unsigned_abs-clause-rounded
+returns-then-unsigned_abs-clause-rounded c = rounded c

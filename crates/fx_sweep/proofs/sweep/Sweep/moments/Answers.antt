@@ -1,4 +1,4 @@
-use Rattle.std.proofs.Common.{◌≡◌, ℕ, ◌+◌, ◌<◌, None, Option, arith, ap, ◌∙◌, sym, subst}
+use Rattle.std.proofs.Common.{◌≡◌, ℕ, ◌+◌, None, Option, arith, ap, ◌∙◌, sym, subst}
 use Rattle.fx_net.specs.Net.{Net}
 use Rattle.fx_net.specs.Tables.{net_of}
 use Rattle.fx_sweep.specs.Range.{range_at}

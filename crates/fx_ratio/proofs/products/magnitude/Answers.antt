@@ -1,6 +1,6 @@
 use Rattle.std.proofs.Common.{arith, ◌*◌}
 use Rattle.fx_ratio.proofs.Guesses.{quotient_is, rest_is}
-use Rattle.fx_ratio.proofs.products.magnitudes.Goals as goal
+use Rattle.fx_ratio.proofs.products.magnitude.Goals as goal
 
 pub returns-then-rest-eq0-clause-ceil : goal.returns-then-rest-eq0-clause-ceil
 returns-then-rest-eq0-clause-ceil c =

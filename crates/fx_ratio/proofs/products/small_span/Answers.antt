@@ -1,7 +1,8 @@
-use Rattle.std.proofs.Common.{arith, to_z-of_z, ◌≡◌, unsigned_abs, true, false}
+use Rattle.std.proofs.Common.{arith, to_z-of_z, ap, ◌≡◌, ◌+◌, unsigned_abs, true, false}
 use Rattle.std.proofs.lemmas.Int.{ints}
+use Rattle.fx_nums.specs.Interval.{Interval}
 use Rattle.fx_ratio.proofs.Signs.{down_ends, signs_differ, up_ends}
-use Rattle.fx_ratio.proofs.products.small_ends.Goals as goal
+use Rattle.fx_ratio.proofs.products.small_span.Goals as goal
 
 pub returns-then-w-num-clause-floor : goal.returns-then-w-num-clause-floor
 returns-then-w-num-clause-floor c =
@@ -13,10 +14,12 @@ returns-then-w-num-clause-floor c =
     omega (
       arith,
       ints,
+      ap (λ (i : Interval). i.lo) c.above.ensures,
       (down_ends c.args.w c.args.num c.unsigned_abs.result c.unsigned_abs-2.result c.args.den
-          c.magnitudes-floor.result.0 c.magnitudes-floor.result.1 c.requires.kept.positive differ x_is m_is
-          c.magnitudes-floor.ensures.floor c.magnitudes-floor.ensures.ceil).0,
-      c.magnitudes-floor.ensures.ceil_in,
+          c.magnitude-floor.result.0 (c.magnitude-floor.result.0 + c.magnitude-floor.result.1)
+          c.requires.kept.positive differ x_is m_is c.magnitude-floor.ensures.floor c.magnitude-floor.ensures.ceil).0,
+      c.magnitude-floor.ensures.floor_in,
+      c.magnitude-floor.ensures.apart,
     )
 
 pub returns-then-w-num-clause-ceil : goal.returns-then-w-num-clause-ceil
@@ -29,10 +32,12 @@ returns-then-w-num-clause-ceil c =
     omega (
       arith,
       ints,
+      ap (λ (i : Interval). i.hi) c.above.ensures,
       (down_ends c.args.w c.args.num c.unsigned_abs.result c.unsigned_abs-2.result c.args.den
-          c.magnitudes-floor.result.0 c.magnitudes-floor.result.1 c.requires.kept.positive differ x_is m_is
-          c.magnitudes-floor.ensures.floor c.magnitudes-floor.ensures.ceil).1,
-      c.magnitudes-floor.ensures.floor_in,
+          c.magnitude-floor.result.0 (c.magnitude-floor.result.0 + c.magnitude-floor.result.1)
+          c.requires.kept.positive differ x_is m_is c.magnitude-floor.ensures.floor c.magnitude-floor.ensures.ceil).1,
+      c.magnitude-floor.ensures.floor_in,
+      c.magnitude-floor.ensures.apart,
     )
 
 pub returns-else-w-num-clause-floor : goal.returns-else-w-num-clause-floor
@@ -45,10 +50,12 @@ returns-else-w-num-clause-floor c =
     omega (
       arith,
       ints,
+      ap (λ (i : Interval). i.lo) c.above-else-w-num.ensures,
       (up_ends c.args.w c.args.num c.unsigned_abs.result c.unsigned_abs-2.result c.args.den
-          c.magnitudes-floor.result.0 c.magnitudes-floor.result.1 c.requires.kept.positive same x_is m_is
-          c.magnitudes-floor.ensures.floor c.magnitudes-floor.ensures.ceil).0,
-      c.magnitudes-floor.ensures.floor_in,
+          c.magnitude-floor.result.0 (c.magnitude-floor.result.0 + c.magnitude-floor.result.1)
+          c.requires.kept.positive same x_is m_is c.magnitude-floor.ensures.floor c.magnitude-floor.ensures.ceil).0,
+      c.magnitude-floor.ensures.floor_in,
+      c.magnitude-floor.ensures.apart,
     )
 
 pub returns-else-w-num-clause-ceil : goal.returns-else-w-num-clause-ceil
@@ -61,8 +68,10 @@ returns-else-w-num-clause-ceil c =
     omega (
       arith,
       ints,
+      ap (λ (i : Interval). i.hi) c.above-else-w-num.ensures,
       (up_ends c.args.w c.args.num c.unsigned_abs.result c.unsigned_abs-2.result c.args.den
-          c.magnitudes-floor.result.0 c.magnitudes-floor.result.1 c.requires.kept.positive same x_is m_is
-          c.magnitudes-floor.ensures.floor c.magnitudes-floor.ensures.ceil).1,
-      c.magnitudes-floor.ensures.ceil_in,
+          c.magnitude-floor.result.0 (c.magnitude-floor.result.0 + c.magnitude-floor.result.1)
+          c.requires.kept.positive same x_is m_is c.magnitude-floor.ensures.floor c.magnitude-floor.ensures.ceil).1,
+      c.magnitude-floor.ensures.floor_in,
+      c.magnitude-floor.ensures.apart,
     )
