@@ -7,7 +7,9 @@ mod Bounded
 mod Passing
 mod FirstFailure
 mod Examples
-mod Raising
+pub mod Raising
+pub mod Padding
+pub mod Places
 mod Raised
 mod Ended
 mod Made

@@ -101,7 +101,7 @@ pub record RestsAtOnce (n : ℕ) (caps rows next x : ℕ → ℕ) : Type 0 where
   pub stays : (j : ℕ) → j < n → next j ≡ rows j
   pub within : (j : ℕ) → j < n → next j ≤ caps j
 
-RestsSo : ℕ → (ℕ → ℕ) → (ℕ → ℕ) → (ℕ → ℕ) → (ℕ → Raises) → (ℕ → ℕ) → Type 0
+pub RestsSo : ℕ → (ℕ → ℕ) → (ℕ → ℕ) → (ℕ → ℕ) → (ℕ → Raises) → (ℕ → ℕ) → Type 0
 RestsSo n caps rows next go_on x = RestsAtOnce n caps rows next x ⊎ ((j : ℕ) × (go_on j ≡ Rest x))
 
 unchanged : (a b : ℕ) → not (eqb a b) ≡ false → a ≡ b
@@ -111,7 +111,7 @@ unchanged a b e = by (eqb a b) refl e
     by true f g = eqb-true a b f
     by false f g = cc
 
-rests : (n : ℕ) (caps rows next x : ℕ → ℕ) (go_on : ℕ → Raises) → ended_by n caps rows next go_on ≡ Rest x →
+pub rests : (n : ℕ) (caps rows next x : ℕ → ℕ) (go_on : ℕ → Raises) → ended_by n caps rows next go_on ≡ Rest x →
     RestsSo n caps rows next go_on x
 unfolding RestsSo rest_of
 rests n caps rows next x go_on e =

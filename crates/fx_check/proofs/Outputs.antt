@@ -20,7 +20,7 @@ use Rattle.fx_block.specs.Formats.{output_at, shift_of}
 use Rattle.fx_block.specs.Joint.{original_row}
 use Rattle.fx_block.specs.Passes.{pair_of, row_count}
 use Rattle.fx_check.specs.Targets.{length_at, lengths_of, target_at, target_count, targets_of}
-use Rattle.fx_check.proofs.Places.{listed_at, listed_length}
+use Rattle.fx_block.proofs.Places.{listed_at, listed_length}
 
 -- ---- what a target is
 

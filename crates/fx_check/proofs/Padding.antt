@@ -1,188 +1,37 @@
 -- The net of a program and equations with empty rows behind.
-use Rattle.std.proofs.Common.{◌≡◌, ℕ, zero, suc, ◌+◌, ◌-◌, ◌<◌, ◌≤◌, false, List, [], ◌∷◌, ◌++◌, length, map, All}
-use Rattle.std.proofs.Common.{filter, eqb, get_or, arith, refl, ap, ◌∙◌, inl, inr}
-use Rattle.std.specs.Prelude.{⊤}
-use Rattle.std.proofs.lemmas.Bool.{cases_lt, cond-false, cond_both, ne_eqb, and_right, le-ltb}
-use Rattle.std.proofs.lemmas.List.{get_or_default, get_or_past, length-map}
-use Rattle.std.proofs.lemmas.List.Elements.{All-nil, All-cons, All-head, All-tail, All-append, All-filter, All-map}
-use Rattle.std.proofs.lemmas.List.Elements.{All-weaker}
-use Rattle.fx_math.specs.Sums.{joined}
-use Rattle.fx_nums.specs.Fraction.{one_fraction, zero_fraction}
+use Rattle.std.proofs.Common.{◌≡◌, ℕ, ◌+◌, ◌≤◌, length, map, All, arith}
+use Rattle.std.proofs.lemmas.List.{length-map}
+use Rattle.std.proofs.lemmas.List.Elements.{All-map, All-weaker}
 use Rattle.fx_eqs.specs.Equations.{Equations}
-use Rattle.fx_eqs.specs.Expanded.{NetRead, NetTerm, equation_row, expanded, hold_rows, input_hold_place}
-use Rattle.fx_eqs.specs.Expanded.{net_read as reads_source, row_hold_place, row_place}
-use Rattle.fx_eqs.specs.Expanded.NetRead.{Now, Old, In}
+use Rattle.fx_eqs.specs.Expanded.{expanded}
 use Rattle.fx_eqs.specs.Fits.{EquationsFit}
-use Rattle.fx_eqs.specs.Lags.{greatest_lag}
-use Rattle.fx_eqs.specs.declared.term.Source.TheVariants.{Row, In as Input}
-use Rattle.fx_eqs.specs.declared.term.Term.{Term}
-use Rattle.fx_net.specs.Net.{Net, empty_net}
-use Rattle.fx_net.specs.Rows.{AreEmpty, ReadFits, coefficient_or, is_within, put_rows, reads_old, row_of}
-use Rattle.fx_net.proofs.Empty.{new_rows_are_empty}
-use Rattle.fx_net.proofs.OtherRows.{other_rows_stay_empty}
-use Rattle.fx_net.proofs.Positions.{row_hold_end, row_inside, sum_within}
-use Rattle.fx_net.proofs.Sources.{item_fits, item_read, read_fits}
+use Rattle.fx_net.specs.Net.{empty_net}
+use Rattle.fx_net.specs.Rows.{AreEmpty}
 use Rattle.fx_code.specs.Code.{Code, IsWhole, OldIsThere, bare}
 use Rattle.fx_code.specs.Code as code
 use Rattle.fx_code.specs.Joint.{joint_net}
-use Rattle.fx_code.specs.NetRows.{bare_rows, net_read, net_row, net_term, put_code}
+use Rattle.fx_code.specs.NetRows.{bare_rows, net_row, put_code}
 use Rattle.fx_code.specs.declared.term.CodeTerm.{CodeTerm}
-use Rattle.fx_code.specs.declared.term.Read.{Read}
-use Rattle.fx_code.specs.declared.term.Read.TheVariants.{Now as NowRow, Old as OldRow, In as InPort}
 use Rattle.fx_totals.specs.Padding.{IsPadded}
-
--- ---- rows that read rows below n of the moment before
-
-abbrev Below : ℕ → NetRead → Type 0
-Below n (Now s) = ⊤
-Below n (Old s) = s < n
-Below n (In s) = ⊤
-
-abbrev AreBelow : ℕ → List NetTerm → Type 0
-AreBelow n ts = All (λ (t : NetTerm). Below n t.from) ts
-
-abbrev RowsBelow : ℕ → List (List NetTerm) → Type 0
-RowsBelow n rows = All (AreBelow n) rows
-
--- they take nothing of a row behind
-
-unread : (at n j : ℕ) (from : NetRead) → at + n ≤ j → Below n from → reads_old at j from ≡ false
-unread at n j (Now s) h below = refl
-unread at n j (Old s) h below = ne_eqb j (at + s) (λ e. omega arith)
-unread at n j (In s) h below = refl
-
-nothing_taken : (at n j : ℕ) (ts : List NetTerm) → at + n ≤ j → AreBelow n ts →
-    coefficient_or zero_fraction (reads_old at j) ts ≡ zero_fraction
-nothing_taken at n j [] h below = refl
-nothing_taken at n j (t ∷ ts) h below =
-    ap (λ c. coefficient_or c (reads_old at j) ts)
-    (cond-false _ _ _ (unread at n j t.from h (All-head (λ (t : NetTerm). Below n t.from) t ts below)))
-    ∙ nothing_taken at n j ts h (All-tail (λ (t : NetTerm). Below n t.from) t ts below)
-
-row_below : (n : ℕ) (rows : List (List NetTerm)) (r : ℕ) → RowsBelow n rows → AreBelow n (row_of rows r)
-unfolding row_of
-row_below n rows r below = elim (cases_lt r (length rows)) [
-  | inl inside ↦ below r [] inside
-  | inr past ↦ rw (get_or_past rows r [] past) (All-nil (λ (t : NetTerm). Below n t.from))
-]
-
-nothing_put : (rows : List (List NetTerm)) (at n i j : ℕ) (net : Net) → at + n ≤ j → RowsBelow n rows →
-    net.old i j ≡ zero_fraction → (put_rows rows at net).old i j ≡ zero_fraction
-unfolding put_rows
-nothing_put rows at n i j net h below none =
-    cond_both (is_within at (length rows) i) _ (net.old i j) (λ c. c ≡ zero_fraction) (λ e.
-    nothing_taken at n j (row_of rows (i - at)) h (row_below n rows (i - at) below)) (λ e. none)
-
--- ---- the rows of a whole program
-
-there : (n : ℕ) (from : Read) → OldIsThere n from → Below n (net_read from)
-there n (NowRow i) h = tt
-there n (OldRow i) h = h
-there n (InPort j) h = tt
-
-code_row_below : (n : ℕ) (row : code.Row) → All (λ (t : CodeTerm). OldIsThere n t.from) row.terms →
-    AreBelow n (net_row (bare row))
-code_row_below n row all =
-    All-map (λ (t : NetTerm). Below n t.from) (net_term row.shift) row.terms
-    (All-weaker (λ (t : CodeTerm). OldIsThere n t.from) (λ (t : CodeTerm). Below n (net_read t.from)) (λ t h.
-    there n t.from h) row.terms all)
+use Rattle.fx_block.proofs.Padding as block
+use Rattle.fx_block.proofs.Padding.{AreBelow, RowsBelow, bare_row_below, rows_leave_empty}
 
 code_below : (p : Code) → IsWhole p → RowsBelow (length p.rows) (map net_row (bare_rows p))
 code_below p whole =
     All-map (AreBelow (length p.rows)) net_row (bare_rows p)
     (All-map (λ row. AreBelow (length p.rows) (net_row row)) bare p.rows
     (All-weaker (λ (row : code.Row). All (λ (t : CodeTerm). OldIsThere (length p.rows) t.from) row.terms)
-    (λ (row : code.Row). AreBelow (length p.rows) (net_row (bare row))) (code_row_below (length p.rows))
-    p.rows whole.reads))
-
--- ---- the expanded rows of equations
-
-holds_below : (n : ℕ) (from : NetRead) (count place : ℕ) → Below n from → place + count ≤ n →
-    RowsBelow n (hold_rows from count place)
-holds_below n from zero place first room = All-nil (AreBelow n)
-holds_below n from (suc count) place first room =
-    All-cons (AreBelow n) (record { coef = one_fraction; from = from } ∷ []) (hold_rows (Old place) count (place + 1))
-    (All-cons (λ (t : NetTerm). Below n t.from) (record { coef = one_fraction; from = from }) [] first
-    (All-nil (λ (t : NetTerm). Below n t.from)))
-    (holds_below n (Old place) count (place + 1) (omega arith) (omega arith))
-
-joined_below : (n m : ℕ) (f : ℕ → List (List NetTerm)) → ((j : ℕ) → j < m → RowsBelow n (f j)) →
-    RowsBelow n (joined m f)
-joined_below n zero f each = All-nil (AreBelow n)
-joined_below n (suc m) f each =
-    All-append (AreBelow n) (joined m f) (f m) (joined_below n m f (λ j l. each j (omega arith))) (each m (omega arith))
-
-fits_below : (n r : ℕ) (from : NetRead) → ReadFits n 0 r from → Below n from
-fits_below n r (Now s) h = tt
-fits_below n r (Old s) h = omega arith
-fits_below n r (In s) h = tt
-
-module _ (s : Equations) (fits : EquationsFit s) where
-  term_below : (k : ℕ) (d : Term) → k < length s.terms →
-      Below (length (expanded s)) (reads_source s (get_or s.terms k d).from (get_or s.terms k d).lag)
-  term_below k d l =
-      let t = get_or s.terms k d in
-      let same : t ≡ get_or s.terms k t = get_or_default s.terms k d t l in
-      let term = item_fits s k t fits.terms l same in
-      fits_below (length (expanded s)) (row_place s t.row) (reads_source s t.from t.lag)
-      (read_fits (length (expanded s)) 0 s t.row t.from t.lag (omega arith) fits.inputs_high
-      (item_read s k t l same term.source) term.causal)
-
-  equation_below : (i : ℕ) → AreBelow (length (expanded s)) (equation_row s i)
-  equation_below i =
-      All-map (λ (t : NetTerm). Below (length (expanded s)) t.from) (λ (t : Term).
-      record { coef = t.coef; from = reads_source s t.from t.lag }) (filter (λ (t : Term). eqb t.row i) s.terms)
-      (All-filter (λ (t : Term). eqb t.row i) (λ (t : Term).
-      Below (length (expanded s)) (reads_source s t.from t.lag)) s.terms (λ k d l. term_below k d l))
-
-  expanded_below : RowsBelow (length (expanded s)) (expanded s)
-  expanded_below =
-      let n = length (expanded s) in
-      let inputs = joined s.inputs (λ j. hold_rows (In j) (greatest_lag (Input j) s.terms) (input_hold_place s j)) in
-      let rows = joined s.rows (λ i. equation_row s i ∷ []) in
-      let holds = joined s.rows (λ j.
-      hold_rows (Old (row_place s j)) (greatest_lag (Row j) s.terms - 1) (row_hold_place s j)) in
-      let end = row_hold_end s in
-      All-append (AreBelow n) (inputs ++ rows) holds
-      (All-append (AreBelow n) inputs rows
-      (joined_below n s.inputs _ (λ j l.
-      (let within = sum_within (λ j. greatest_lag (Input j) s.terms) s.inputs j l in
-      holds_below n (In j) (greatest_lag (Input j) s.terms) (input_hold_place s j) tt (omega (arith, end, within)))))
-      (joined_below n s.rows _ (λ i l.
-      All-cons (AreBelow n) (equation_row s i) [] (equation_below i) (All-nil (AreBelow n)))))
-      (joined_below n s.rows _ (λ j l.
-      (let within = sum_within (λ j. greatest_lag (Row j) s.terms - 1) s.rows j l in
-      holds_below n (Old (row_place s j)) (greatest_lag (Row j) s.terms - 1) (row_hold_place s j)
-      (row_inside s j l) (omega (arith, end, within)))))
-
--- ---- the net of both
+    (λ (row : code.Row). AreBelow (length p.rows) (net_row (bare row)))
+    (λ row. bare_row_below (length p.rows) (bare row)) p.rows whole.reads))
 
 -- behind the rows of a program a new net is still empty
 pub code_leaves_empty : (p : Code) (n place count : ℕ) → length p.rows ≤ place →
     AreEmpty place count (put_code p 0 (empty_net n))
 code_leaves_empty p n place count behind =
     let long : length (bare_rows p) ≡ length p.rows = length-map p.rows bare in
-    let all : length (map net_row (bare_rows p)) ≡ length (bare_rows p) = length-map (bare_rows p) net_row in
-    let rows = other_rows_stay_empty (map net_row (bare_rows p)) 0 place count (empty_net n)
-    (inr (omega (arith, behind, long, all))) (new_rows_are_empty place count n) in
-    record {
-      now = rows.now;
-      old = rows.old;
-      input = rows.input;
-      class = λ i h l. cond-false _ _ _ (and_right _ _ (le-ltb i (0 + length (bare_rows p))
-          (omega (arith, behind, long, h))));
-    }
+    rows_leave_empty (bare_rows p) n place count (omega (arith, long, behind))
 
 pub is_padded : (p : Code) (s : Equations) (m n : ℕ) → IsWhole p → EquationsFit s →
     m ≡ length p.rows + length (expanded s) → m ≤ n → IsPadded (joint_net m p s) (joint_net n p s)
-unfolding put_rows
-is_padded p s m n whole fits count room = record {
-  rows = room;
-  unread = λ i j l h. nothing_put (expanded s) (length p.rows) (length (expanded s)) i j (put_code p 0 (empty_net m))
-      (omega (arith, count, h)) (expanded_below s fits)
-      (nothing_put (map net_row (bare_rows p)) 0 (length p.rows) i j (empty_net m)
-      (omega (arith, count, h)) (code_below p whole) refl);
-  same = λ i l. record { now = λ j. refl; old = λ j. refl; input = λ j. refl; class = refl };
-  empty = other_rows_stay_empty (expanded s) (length p.rows) m (n - m) (put_code p 0 (empty_net n))
-      (inr (omega (arith, count))) (code_leaves_empty p n m (n - m) (omega (arith, count)));
-}
+is_padded p s m n whole fits count room =
+    block.is_padded (bare_rows p) s (length p.rows) m n (length-map p.rows bare) (code_below p whole) fits count room

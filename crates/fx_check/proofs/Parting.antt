@@ -18,7 +18,7 @@ use Rattle.fx_cert.specs.Certificate.{Certificate}
 use Rattle.fx_error.specs.PartsOf.{ArePartsOf}
 use Rattle.fx_error.specs.declared.parts.Parts.{Parts}
 use Rattle.fx_check.specs.Report.{no_parts, output_parts, parts_at, parts_of}
-use Rattle.fx_check.proofs.Places.{listed_at, listed_length}
+use Rattle.fx_block.proofs.Places.{listed_at, listed_length}
 
 -- parts of the same numbers
 same_parts : (p q : Parts) → p.rounding ≡ q.rounding → p.difference ≡ q.difference → p.rest ≡ q.rest → p ≡ q

@@ -38,7 +38,7 @@ use Rattle.fx_check.proofs.Outputs.{length_listed, length_pair, length_row, targ
 use Rattle.fx_check.proofs.Outputs.{target_row, targets_long}
 use Rattle.fx_check.proofs.Padding.{is_padded}
 use Rattle.fx_check.proofs.Parting.{parts_are}
-use Rattle.fx_check.proofs.Places.{listed_length}
+use Rattle.fx_block.proofs.Places.{listed_length}
 
 -- ---- what a range tells
 

@@ -8,7 +8,6 @@ mod MadePrograms
 mod OfForm
 mod Outputs
 mod Padding
-mod Places
 mod Ports
 mod SameRaises
 mod SearchingLengths

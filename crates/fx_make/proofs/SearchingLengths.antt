@@ -23,7 +23,7 @@ use Rattle.fx_make.specs.Search.{failed_of, searched, with_next}
 use Rattle.fx_make.specs.Search.Progress.{AllFailed, Found}
 use Rattle.fx_make.specs.declared.fail.Fail.{Fail}
 use Rattle.fx_make.specs.declared.fail.Failed.{Failed}
-use Rattle.fx_make.proofs.AtRest.{none_passes}
+use Rattle.fx_block.proofs.Raising.{none_passes}
 use Rattle.fx_make.proofs.GoingOn.{found_stays, searched_on}
 use Rattle.fx_make.proofs.SameRaises.{first_inside}
 

@@ -1,6 +1,6 @@
 use Rattle.std.proofs.Common.{◌<◌, ◌∙◌, length, length-set, arith}
 use Rattle.fx_check.specs.Targets.{length_at}
-use Rattle.fx_check.proofs.Places.{listed_more}
+use Rattle.fx_block.proofs.Places.{listed_more}
 use Rattle.fx_check.proofs.targets.lengths.Goals as goal
 
 pub loop-t-preserved : goal.loop-t-preserved

@@ -4,7 +4,7 @@ use Rattle.fx_eqs.specs.Expanded.{expanded}
 use Rattle.fx_net.specs.Net.{empty_net}
 use Rattle.fx_net.specs.Tables.{net_of}
 use Rattle.fx_code.specs.NetRows.{put_bare_rows}
-use Rattle.fx_make.proofs.Padding.{rows_leave_empty}
+use Rattle.fx_block.proofs.Padding.{rows_leave_empty}
 use Rattle.fx_make.proofs.joint.put_joint.Goals as goal
 
 pub put_eqs-requires : goal.put_eqs-requires

@@ -1,6 +1,6 @@
 use Rattle.std.proofs.Common.{rules, ◌≡◌, ◌<◌, ap, ap₂, sym, ◌∙◌, subst, arith, false, true, length, length-set}
 use Rattle.std.proofs.Common.{FitsSigned, to_z, of_z, to_z-of_z}
-use Rattle.std.proofs.Math.IntN.{ℤ}
+use Rattle.std.proofs.Math.IntN.{ℤ, pos}
 use Rattle.std.specs.Int.{w128}
 use Rattle.std.specs.Int.Signed.{◌≤ℤ◌, ◌<ℤ◌, lt_z}
 use Rattle.std.specs.Prelude.{Some}
@@ -10,7 +10,7 @@ use Rattle.fx_block.specs.Formats.{output_at}
 use Rattle.fx_totals.specs.Kept.{bound_in}
 use Rattle.fx_make.specs.Lengths.{above_fail, kept_pairs}
 use Rattle.fx_make.specs.declared.fail.Fail.TheVariants.{Error}
-use Rattle.fx_make.proofs.Places.{first_more}
+use Rattle.fx_block.proofs.Places.{first_more}
 use Rattle.fx_make.proofs.Telling.{first_found, none_yet}
 use Rattle.fx_make.proofs.lengths.put_errors.Goals as goal
 
@@ -57,7 +57,7 @@ loop-o-preserved g c =
     rw (to_z-of_z total_fits) (record {
       long = length-set c.loop-o.e o c.pair_total-total.result ∙ c.loop-o.invariant.long;
       first =
-          first_more c.loop-o.e o c.pair_total-total.result total inside c.loop-o.invariant.first value;
+          first_more (pos 0) c.loop-o.e o c.pair_total-total.result total inside c.loop-o.invariant.first value;
       none =
           none_yet o total (λ k. (output_at f k).target) c.loop-o.invariant.none within;
     })

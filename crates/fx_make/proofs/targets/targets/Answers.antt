@@ -1,6 +1,6 @@
 use Rattle.std.proofs.Common.{◌<◌, ◌∙◌, length, length-set, arith}
 use Rattle.fx_make.specs.Targets.{target_at}
-use Rattle.fx_make.proofs.Places.{listed_more}
+use Rattle.fx_block.proofs.Places.{listed_more}
 use Rattle.fx_make.proofs.targets.targets.Goals as goal
 
 pub loop-t-preserved : goal.loop-t-preserved

@@ -1,7 +1,7 @@
 use Rattle.std.proofs.Common.{◌≡◌, length, take}
 use Rattle.fx_make.specs.Targets.{target_at}
 use Rattle.fx_make.specs.declared.targets.TheConstants.{MOST_TARGETS}
-use Rattle.fx_make.proofs.Places.{listed}
+use Rattle.fx_block.proofs.Places.{listed}
 use Rattle.fx_make.proofs.targets.targets.Given as goal
 
 abbrev pub invariant-loop-t : goal.invariant-loop-t

@@ -6,7 +6,7 @@ use Rattle.fx_check.specs.Report.{no_parts, parts_at}
 use Rattle.fx_check.specs.Targets.{lengths_of, padded_net, target_count, targets_of}
 use Rattle.fx_check.proofs.Outputs.{targets_long}
 use Rattle.fx_check.proofs.Parting.{parts_listed}
-use Rattle.fx_check.proofs.Places.{behind_stays, first_more}
+use Rattle.fx_block.proofs.Places.{behind_stays, first_more}
 use Rattle.fx_check.proofs.Sweeps.{parts_told}
 use Rattle.fx_check.proofs.judging.Judge.parts.Goals as goal
 

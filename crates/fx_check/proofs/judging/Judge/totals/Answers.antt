@@ -7,7 +7,7 @@ use Rattle.fx_totals.specs.Filled.{length_in, target_in}
 use Rattle.fx_totals.specs.Totals.{target_total}
 use Rattle.fx_check.specs.Targets.{lengths_of, padded_net, target_count, targets_of}
 use Rattle.fx_check.proofs.Outputs.{targets_long}
-use Rattle.fx_check.proofs.Places.{first_more}
+use Rattle.fx_block.proofs.Places.{first_more}
 use Rattle.fx_check.proofs.Sweeps.{has_totals, padded_total}
 use Rattle.fx_check.proofs.judging.Judge.totals.Goals as goal
 
