@@ -5,8 +5,8 @@ use Rattle.std.specs.List.{count_by}
 use Rattle.fx_math.specs.Sums.{sum_below}
 use Rattle.fx_nums.specs.Fraction.{Fraction, zero_fraction, is_zero}
 use Rattle.fx_mat.specs.Entries.{IsZeroOutside}
-use Rattle.fx_cross.specs.declared.limits.TheConstants.{GREATEST_ROOM, GREATEST_SIDE}
 pub use Rattle.fx_mat.specs.Entries.{no_entries, put}
+use Rattle.fx_cross.specs.declared.limits.TheConstants.{GREATEST_ROOM, GREATEST_SIDE}
 
 -- the value is 0
 abbrev pub IsZero : Fraction → Type 0

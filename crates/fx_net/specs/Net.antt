@@ -3,8 +3,8 @@ use Rattle.std.specs.Prelude.{◌≡◌, ℕ, ◌≤◌, ◌==◌, cond}
 use Rattle.fx_nums.specs.Fraction.{Fraction, zero_fraction}
 use Rattle.fx_eqs.specs.declared.limits.TheConstants.{PORTS}
 use Rattle.fx_mat.specs.Entries.{no_entries, put, IsZeroOutside}
-use Rattle.fx_net.specs.declared.limits.TheConstants.{LARGEST_NET, GREATEST_CLASS}
 pub use Rattle.fx_cross.specs.Table.{plain}
+use Rattle.fx_net.specs.declared.limits.TheConstants.{LARGEST_NET, GREATEST_CLASS}
 
 -- coefficients by row and source, zero outside; and the class of each row: how many half steps its perturbation may
 -- have
