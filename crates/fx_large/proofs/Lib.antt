@@ -1,0 +1,4 @@
+pub mod DrawnSections
+pub mod FirstMoments
+pub mod RunsSoFar
+pub mod Steps
