@@ -1,7 +1,7 @@
 //! The program: judges certified fixed-point code for linear filters, shows filter files, and runs code on samples.
 #![tactic(auto)]
 
-ghost use Rattle.fx_tool.specs.Command.{texts};
+ghost use Rattle.fx_words.specs.Command.{texts};
 ghost use Rattle.fx_tool.specs.Running.{CanRead};
 ghost use Rattle.fixif.specs.Ending.{EndsRun};
 

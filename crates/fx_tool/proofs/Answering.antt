@@ -22,10 +22,12 @@ use Rattle.fx_sim.specs.Simulation.{simulation}
 use Rattle.fx_sim.specs.declared.fault.SampleFault.{SampleFault}
 use Rattle.fx_tool.specs.Answer.{Answer, absent, Delivers}
 use Rattle.fx_tool.specs.Check.{certified, code_plan, filter_plan}
-use Rattle.fx_tool.specs.Command.{Command, command_of}
+use Rattle.fx_words.specs.Command.{Command}
+use Rattle.fx_words.specs.Words.{command_of}
 use Rattle.fx_tool.specs.Gain.{by_serving, gained, gains, serving}
 use Rattle.fx_tool.specs.Judgement.{by_failure, judged, reported, told}
-use Rattle.fx_tool.specs.Operand.{limit_of, too_long}
+use Rattle.fx_words.specs.Operand.{limit_of}
+use Rattle.fx_tool.specs.Operand.{too_long}
 use Rattle.fx_tool.specs.Plan.{Plan, Ends, Reads, by_content, answer_by, OfAnswer, WhereTold}
 use Rattle.fx_make.specs.Made.{found}
 use Rattle.fx_make.specs.Search.{Progress}
@@ -41,12 +43,12 @@ use Rattle.fx_tool.specs.Show.{shown}
 use Rattle.fx_tool.specs.Simulate.{outputs, samples_plan}
 use Rattle.fx_tool.specs.Status.{is_spoken}
 use Rattle.fx_tool.specs.Writing.{GrowsBy}
-use Rattle.fx_tool.specs.declared.command.Verb.{Verb}
-use Rattle.fx_tool.specs.declared.command.Verb.TheVariants.{Check, Gain, Make, Report, Show, Simulate}
+use Rattle.fx_words.specs.declared.command.Verb.{Verb}
+use Rattle.fx_words.specs.declared.command.Verb.TheVariants.{Check, Gain, Make, Report, Show, Simulate}
 use Rattle.fx_tool.specs.declared.judgement.Detail.{Detail}
 use Rattle.fx_tool.specs.declared.judgement.Detail.TheVariants.{Brief, Full}
-use Rattle.fx_tool.specs.declared.operand.Operand.{Operand}
-use Rattle.fx_tool.specs.declared.operand.Operand.TheVariants as operand
+use Rattle.fx_words.specs.declared.operand.Operand.{Operand}
+use Rattle.fx_words.specs.declared.operand.Operand.TheVariants as operand
 use Rattle.fx_tool.specs.declared.status.Status.{Status}
 use Rattle.fx_tool.specs.declared.status.Status.TheVariants.{ReadFault, NoMemory}
 
@@ -128,17 +130,17 @@ gained_spoken : (r : Result Filter FilterFault) → IsSpoken (gained r)
 gained_spoken (Ok f) = gains_spoken f
 gained_spoken (Err fault) = refl
 
-verb_spoken : (v : Verb) → AllSpoken (plan_of v)
-verb_spoken Check = λ bytes. filter_spoken Brief (filter_of_bytes bytes)
-verb_spoken Gain = λ bytes. gained_spoken (filter_of_bytes bytes)
-verb_spoken Make = λ bytes. made_spoken (filter_of_bytes bytes)
-verb_spoken Report = λ bytes. filter_spoken Full (filter_of_bytes bytes)
-verb_spoken Show = λ bytes. shown_spoken (filter_of_bytes bytes)
-verb_spoken Simulate = λ bytes. samples_spoken (code_in bytes)
+verb_spoken : (v : Verb) (names : List (List ℕ)) → AllSpoken (plan_of v names)
+verb_spoken Check names = λ bytes. filter_spoken Brief (filter_of_bytes bytes)
+verb_spoken Gain names = λ bytes. gained_spoken (filter_of_bytes bytes)
+verb_spoken Make names = λ bytes. made_spoken (filter_of_bytes bytes)
+verb_spoken Report names = λ bytes. filter_spoken Full (filter_of_bytes bytes)
+verb_spoken Show names = λ bytes. shown_spoken (filter_of_bytes bytes)
+verb_spoken Simulate names = λ bytes. samples_spoken (code_in bytes)
 
 words_spoken : (c : Option Command) → AllSpoken (plan_to c)
 words_spoken None = refl
-words_spoken (Some c) = verb_spoken c.verb
+words_spoken (Some c) = verb_spoken c.verb c.names
 
 -- ---- so each answer on files is such, or a file is absent
 
@@ -269,6 +271,20 @@ pub places_at_no_memory : (words : List (List ℕ)) (before after : Option Files
 places_at_no_memory words None after = tt
 places_at_no_memory words (Some files) after = λ h.
     absurd (memory_is_no_answer (answer_of words files) (usual_answer words files) h)
+
+-- a run that ends before it reads follows any plan
+pub follows_nothing : (words : List (List ℕ)) (shelf : Outside) → FollowsWords words shelf shelf (Err io.NoMemory)
+follows_nothing words shelf = record {
+  answer = tt;
+  shelf = record {
+    files = refl;
+    cause = record { later = omega arith; failed = λ e. cc; kept = inl refl };
+    place_faults = refl;
+    later = omega arith;
+    few = omega arith;
+    names = λ q h. h;
+  };
+}
 
 -- ---- what such a run leaves
 

@@ -28,15 +28,16 @@ use Rattle.fx_tool.specs.Check.{certified, check_plan, code_plan, filter_plan}
 use Rattle.fx_tool.specs.CheckCauses.{HasBytes, HasFilter, HasCode, HasCertificate, HasAll}
 use Rattle.fx_tool.specs.CheckCauses.{BadFilterExactly, BadCodeExactly, BadCertificateExactly, RefusedExactly}
 use Rattle.fx_tool.specs.CheckCauses.{PassingIsAccepted}
-use Rattle.fx_tool.specs.Command.{Command, operands_of}
+use Rattle.fx_words.specs.Command.{Command, operands_of}
 use Rattle.fx_tool.specs.Judgement.{by_failure, judged}
-use Rattle.fx_tool.specs.Operand.{limit_of, too_long}
+use Rattle.fx_words.specs.Operand.{limit_of}
+use Rattle.fx_tool.specs.Operand.{too_long}
 use Rattle.fx_tool.specs.Plan.{Plan, Ends, Reads, by_content, answer_by}
 use Rattle.fx_tool.specs.Running.{answer_of, names_to, operands_to, plan_to}
-use Rattle.fx_tool.specs.declared.command.Verb.TheVariants.{Check}
+use Rattle.fx_words.specs.declared.command.Verb.TheVariants.{Check}
 use Rattle.fx_tool.specs.declared.judgement.Detail.TheVariants.{Brief}
-use Rattle.fx_tool.specs.declared.operand.Operand.{Operand}
-use Rattle.fx_tool.specs.declared.operand.Operand.TheVariants as operand
+use Rattle.fx_words.specs.declared.operand.Operand.{Operand}
+use Rattle.fx_words.specs.declared.operand.Operand.TheVariants as operand
 use Rattle.fx_tool.specs.declared.status.Status.{Status}
 use Rattle.fx_tool.specs.declared.status.Status.TheVariants.{Done, Refused, BadFilter, BadCode, BadCertificate}
 use Rattle.fx_tool.specs.declared.status.Status.TheVariants.{ReadFault, TooLong}

@@ -7,11 +7,12 @@ use Rattle.fx_io.specs.Outside.{Outside, OnlyReads}
 use Rattle.fx_io.specs.Shelf.{Files}
 use Rattle.fx_io.specs.declared.shelf.IoFault.{IoFault}
 use Rattle.fx_tool.specs.Answer.{Answer, absent}
-use Rattle.fx_tool.specs.Operand.{limit_of, too_long}
+use Rattle.fx_words.specs.Operand.{limit_of}
+use Rattle.fx_tool.specs.Operand.{too_long}
 use Rattle.fx_tool.specs.Plan.{Plan, Ends, Reads, by_content, answer_by, calls_by, most_calls, plan_calls, OfAnswer}
 use Rattle.fx_tool.specs.Plan.{Follows}
 use Rattle.fx_tool.specs.Reading.{Has, HoldsContent, read_calls}
-use Rattle.fx_tool.specs.declared.operand.Operand.{Operand}
+use Rattle.fx_words.specs.declared.operand.Operand.{Operand}
 use Rattle.std.proofs.lemmas.Bool.{le-leb}
 
 -- ---- the answer

@@ -41,13 +41,16 @@ use Rattle.fx_tool.proofs.TwoPlaced.{Apart, Hold, three_names, two_placed}
 use Rattle.fx_tool.specs.Answer.{Answer, absent, Delivers}
 use Rattle.fx_tool.specs.Check.{certified, check_plan, code_plan, filter_plan, Headline}
 use Rattle.fx_tool.specs.Check.{CertificateIsSound, CodeIsSound, FilterIsSound, FilesAreSound}
-use Rattle.fx_tool.specs.Command.{Command, command_of, names_fit, operands_of, targets_of, verb_of, with_names}
+use Rattle.fx_words.specs.Command.{Command, names_fit, operands_of, targets_of}
+use Rattle.fx_words.specs.Words.{command_of, IsWhole}
+use Rattle.fx_words.proofs.Completeness.{commands_are_whole}
 use Rattle.fx_tool.specs.Gain.{by_serving, gained, gains, gains_text, serving, BytesEnclose, Gains, GainsEnclose}
 use Rattle.fx_tool.specs.Made.{made_certificate, made_program}
 use Rattle.fx_tool.specs.Make.{FilterIsServed, IsServed, Makes, Serves, made_of_bytes}
 use Rattle.fx_tool.specs.Placing.{placings, with_placed}
 use Rattle.fx_tool.specs.Judgement.{by_failure, judged, parts_text, passing_lines, reported, told}
-use Rattle.fx_tool.specs.Operand.{limit_of, too_long}
+use Rattle.fx_words.specs.Operand.{limit_of}
+use Rattle.fx_tool.specs.Operand.{too_long}
 use Rattle.fx_tool.specs.Plan.{Plan, Ends, Reads, by_content, answer_by, OfAnswer}
 use Rattle.fx_tool.specs.Running.{PlacesAnswer, answer_of, placings_of, targets_to}
 use Rattle.fx_tool.specs.Running.{plan_of, operands_to, names_to, plan_to, OfWords, Claims, DoneClaims}
@@ -55,12 +58,12 @@ use Rattle.fx_tool.specs.Running.{Establishes, EstablishesTo, EstablishesWords}
 use Rattle.fx_tool.specs.Show.{shown, Shows}
 use Rattle.fx_tool.specs.Simulate.{outputs, samples_plan, Simulates}
 use Rattle.fx_tool.specs.Writing.{GrowsBy}
-use Rattle.fx_tool.specs.declared.command.Verb.{Verb}
-use Rattle.fx_tool.specs.declared.command.Verb.TheVariants.{Check, Gain, Make, Report, Show, Simulate}
+use Rattle.fx_words.specs.declared.command.Verb.{Verb}
+use Rattle.fx_words.specs.declared.command.Verb.TheVariants.{Check, Gain, Make, Report, Show, Simulate}
 use Rattle.fx_tool.specs.declared.judgement.Detail.{Detail}
 use Rattle.fx_tool.specs.declared.judgement.Detail.TheVariants.{Brief, Full}
-use Rattle.fx_tool.specs.declared.operand.Operand.{Operand}
-use Rattle.fx_tool.specs.declared.operand.Operand.TheVariants as operand
+use Rattle.fx_words.specs.declared.operand.Operand.{Operand}
+use Rattle.fx_words.specs.declared.operand.Operand.TheVariants as operand
 use Rattle.fx_tool.specs.declared.status.Status.{Status}
 use Rattle.fx_tool.specs.declared.status.Status.TheVariants.{Done, Usage}
 
@@ -129,8 +132,8 @@ shown_done (Ok f) h = (f, refl, refl)
 shown_done (Err fault) h = cc
 
 show_done : (files : Files) (names : List (List ℕ)) (before after : Option (List ℕ)) →
-    (answer_by (operands_of Show) names (plan_of Show) files).status ≡ Done
-    → GrowsBy (answer_by (operands_of Show) names (plan_of Show) files).text before after →
+    (answer_by (operands_of Show) names (plan_of Show names) files).status ≡ Done
+    → GrowsBy (answer_by (operands_of Show) names (plan_of Show names) files).text before after →
     Claims Show names files before after
 show_done files names before after h grows =
     let file = is_read operand.Filter [] names (λ bytes. Ends (shown (filter_of_bytes bytes))) files h in
@@ -156,8 +159,8 @@ outputs_done (Ok t) h = (t, refl, refl)
 outputs_done (Err fault) h = cc
 
 simulate_done : (files : Files) (names : List (List ℕ)) (before after : Option (List ℕ)) →
-    (answer_by (operands_of Simulate) names (plan_of Simulate) files).status ≡ Done
-    → GrowsBy (answer_by (operands_of Simulate) names (plan_of Simulate) files).text before after →
+    (answer_by (operands_of Simulate) names (plan_of Simulate names) files).status ≡ Done
+    → GrowsBy (answer_by (operands_of Simulate) names (plan_of Simulate names) files).text before after →
     Claims Simulate names files before after
 simulate_done files names before after h grows =
     let file = is_read operand.Code (operand.Samples ∷ []) names (λ bytes. samples_plan (code_in bytes)) files h in
@@ -342,27 +345,27 @@ headline law detail files names answer before after j sound grows = record {
 }
 
 check_done : CertificateLaw → (files : Files) (names : List (List ℕ)) (before after : Option (List ℕ)) →
-    (answer_by (operands_of Check) names (plan_of Check) files).status ≡ Done →
+    (answer_by (operands_of Check) names (plan_of Check names) files).status ≡ Done →
     Establishes Check names (Some files)
-    → GrowsBy (answer_by (operands_of Check) names (plan_of Check) files).text before after →
+    → GrowsBy (answer_by (operands_of Check) names (plan_of Check names) files).text before after →
     Claims Check names files before after
 check_done law files names before after h sound grows =
     let j = is_judged Brief files names h in
     let shown = subst (λ (names : List (List ℕ)). Establishes Check names (Some files)) j.names_are sound in
     subst (λ (names : List (List ℕ)). Claims Check names files before after) (sym j.names_are)
-    (headline law Brief files names (answer_by (operands_of Check) names (plan_of Check) files) before after j shown
+    (headline law Brief files names (answer_by (operands_of Check) names (plan_of Check names) files) before after j shown
     grows)
 
 report_done : CertificateLaw → (files : Files) (names : List (List ℕ)) (before after : Option (List ℕ)) →
-    (answer_by (operands_of Report) names (plan_of Report) files).status ≡ Done →
+    (answer_by (operands_of Report) names (plan_of Report names) files).status ≡ Done →
     Establishes Report names (Some files)
-    → GrowsBy (answer_by (operands_of Report) names (plan_of Report) files).text before after →
+    → GrowsBy (answer_by (operands_of Report) names (plan_of Report names) files).text before after →
     Claims Report names files before after
 report_done law files names before after h sound grows =
     let j = is_judged Full files names h in
     let shown = subst (λ (names : List (List ℕ)). Establishes Report names (Some files)) j.names_are sound in
     subst (λ (names : List (List ℕ)). Claims Report names files before after) (sym j.names_are)
-    (headline law Full files names (answer_by (operands_of Report) names (plan_of Report) files) before after j shown
+    (headline law Full files names (answer_by (operands_of Report) names (plan_of Report names) files) before after j shown
     grows)
 
 -- ---- `gain`
@@ -391,8 +394,8 @@ gained_done (Ok f) h =
 gained_done (Err fault) h = cc
 
 gain_done : (files : Files) (names : List (List ℕ)) (before after : Option (List ℕ)) →
-    (answer_by (operands_of Gain) names (plan_of Gain) files).status ≡ Done → Establishes Gain names (Some files)
-    → GrowsBy (answer_by (operands_of Gain) names (plan_of Gain) files).text before after →
+    (answer_by (operands_of Gain) names (plan_of Gain names) files).status ≡ Done → Establishes Gain names (Some files)
+    → GrowsBy (answer_by (operands_of Gain) names (plan_of Gain names) files).text before after →
     Claims Gain names files before after
 gain_done files names before after h shown grows =
     let file = is_read operand.Filter [] names (λ bytes. Ends (gained (filter_of_bytes bytes))) files h in
@@ -415,25 +418,16 @@ gain_done files names before after h shown grows =
 
 -- ---- each command
 
--- the names of a command fit it
-fitting : (b : Bool) (v : Verb) (names : List (List ℕ)) (c : Command) →
-    cond b (Some (record { verb = v; names = names })) None ≡ Some c → names_fit v names ≡ b →
-    names_fit c.verb c.names ≡ true
-fitting true v names c e fit =
-    let same : record { verb = v; names = names } ≡ c = cc in
-    subst (λ (c : Command). names_fit c.verb c.names ≡ true) same fit
-fitting false v names c e fit = cc
-
 -- ---- `make`
 
 -- of three files, the second and the third as they are placed
 made : CertificateLaw → NoneFails → (files files' : Files) (filter code cert : List ℕ) (before after : Option (List ℕ)) →
     Apart filter code cert →
-    (answer_by (operands_of Make) (filter ∷ code ∷ cert ∷ []) (plan_of Make) files).status ≡ Done →
+    (answer_by (operands_of Make) (filter ∷ code ∷ cert ∷ []) (plan_of Make (filter ∷ code ∷ cert ∷ [])) files).status ≡ Done →
     Establishes Make (filter ∷ code ∷ cert ∷ []) (Some files)
-    → GrowsBy (answer_by (operands_of Make) (filter ∷ code ∷ cert ∷ []) (plan_of Make) files).text before after →
+    → GrowsBy (answer_by (operands_of Make) (filter ∷ code ∷ cert ∷ []) (plan_of Make (filter ∷ code ∷ cert ∷ [])) files).text before after →
     files' ≡ with_placed (placings (code ∷ cert ∷ [])
-    (answer_by (operands_of Make) (filter ∷ code ∷ cert ∷ []) (plan_of Make) files).placed) files →
+    (answer_by (operands_of Make) (filter ∷ code ∷ cert ∷ []) (plan_of Make (filter ∷ code ∷ cert ∷ [])) files).placed) files →
     Makes files' filter code cert before after
 made law none files files' filter code cert before after apart h served grows left =
     let (bytes, found, short, same) = content_done operand.Filter (get files filter)
@@ -481,17 +475,17 @@ made law none files files' filter code cert before after apart h served grows le
 -- where it ends with 0, its files are as it claims
 make_done : CertificateLaw → NoneFails → (files files' : Files) (names : List (List ℕ))
     (before after : Option (List ℕ)) → names_fit Make names ≡ true →
-    (answer_by (operands_of Make) names (plan_of Make) files).status ≡ Done → Establishes Make names (Some files)
-    → GrowsBy (answer_by (operands_of Make) names (plan_of Make) files).text before after →
+    (answer_by (operands_of Make) names (plan_of Make names) files).status ≡ Done → Establishes Make names (Some files)
+    → GrowsBy (answer_by (operands_of Make) names (plan_of Make names) files).text before after →
     files' ≡ with_placed (placings (targets_of Make names)
-    (answer_by (operands_of Make) names (plan_of Make) files).placed) files → Claims Make names files' before after
+    (answer_by (operands_of Make) names (plan_of Make names) files).placed) files → Claims Make names files' before after
 make_done law none files files' names before after fit =
     let three = three_names names fit in
     subst (λ (names : List (List ℕ)).
-    (answer_by (operands_of Make) names (plan_of Make) files).status ≡ Done → Establishes Make names (Some files)
-    → GrowsBy (answer_by (operands_of Make) names (plan_of Make) files).text before after →
+    (answer_by (operands_of Make) names (plan_of Make names) files).status ≡ Done → Establishes Make names (Some files)
+    → GrowsBy (answer_by (operands_of Make) names (plan_of Make names) files).text before after →
     files' ≡ with_placed (placings (targets_of Make names)
-    (answer_by (operands_of Make) names (plan_of Make) files).placed) files → Claims Make names files' before after)
+    (answer_by (operands_of Make) names (plan_of Make names) files).placed) files → Claims Make names files' before after)
     (sym three.are) (made law none files files' three.first three.second three.third before after three.apart)
 
 -- a command that places nothing leaves its files
@@ -501,9 +495,9 @@ kept v names files files' before after left h = subst (λ (f : Files). Claims v 
 
 verb_done : CertificateLaw → NoneFails → (v : Verb) (names : List (List ℕ)) (files files' : Files)
     (before after : Option (List ℕ)) → names_fit v names ≡ true →
-    (answer_by (operands_of v) names (plan_of v) files).status ≡ Done → Establishes v names (Some files)
-    → GrowsBy (answer_by (operands_of v) names (plan_of v) files).text before after →
-    files' ≡ with_placed (placings (targets_of v names) (answer_by (operands_of v) names (plan_of v) files).placed) files
+    (answer_by (operands_of v) names (plan_of v names) files).status ≡ Done → Establishes v names (Some files)
+    → GrowsBy (answer_by (operands_of v) names (plan_of v names) files).text before after →
+    files' ≡ with_placed (placings (targets_of v names) (answer_by (operands_of v) names (plan_of v names) files).placed) files
     → Claims v names files' before after
 verb_done law none Check names files files' before after fit h shows grows left =
     kept Check names files files' before after left (check_done law files names before after h shows grows)
@@ -533,16 +527,8 @@ told_answer os names (Ends a) files P h = h
 told_answer os names (Reads next) files P h = h
 
 -- the names of the words' command fit it
-verb_fits : (v : Option Verb) (names : List (List ℕ)) (c : Command) →
-    option_and_then (with_names names) v ≡ Some c → names_fit c.verb c.names ≡ true
-verb_fits None names c e = cc
-verb_fits (Some v) names c e = fitting (names_fit v names) v names c e refl
-
-words_fit : (words : List (List ℕ)) (c : Command) → command_of words ≡ Some c → names_fit c.verb c.names ≡ true
-unfolding command_of
-words_fit [] c e = cc
-words_fit (program ∷ []) c e = cc
-words_fit (program ∷ word ∷ names) c e = verb_fits (verb_of word) names c e
+fits_of : (c : Option Command) → IsWhole c → (d : Command) → c ≡ Some d → names_fit d.verb d.names ≡ true
+fits_of c whole d e = subst (λ (c : Option Command). IsWhole c) e whole
 
 command_done : CertificateLaw → NoneFails → (c : Option Command) →
     ((d : Command) → c ≡ Some d → names_fit d.verb d.names ≡ true) →
@@ -555,8 +541,8 @@ command_done : CertificateLaw → NoneFails → (c : Option Command) →
 command_done law none None fits files files' before after shows h left =
     absurd (let e : Usage ≡ Done = answered (answer_by [] [] (plan_to None) files) before after h in cc)
 command_done law none (Some c) fits files files' before after shows h left =
-    let given = told_answer (operands_of c.verb) c.names (plan_of c.verb) files (λ a. Delivers a Done before after) h in
-    let done = answered (answer_by (operands_of c.verb) c.names (plan_of c.verb) files) before after given in
+    let given = told_answer (operands_of c.verb) c.names (plan_of c.verb c.names) files (λ a. Delivers a Done before after) h in
+    let done = answered (answer_by (operands_of c.verb) c.names (plan_of c.verb c.names) files) before after given in
     verb_done law none c.verb c.names files files' before after (fits c refl) done shows (given.whole (sym done))
     (left (sym done))
 
@@ -575,4 +561,4 @@ done_claims law none words (Some files) told' status before after e shows h left
     (told_answer (operands_to c) (names_to c) (plan_to c) files (λ a. Delivers a Done before after) given) in
     let files' = with_placed (placings_of words (answer_of words files)) files in
     files_there told' files' (λ f. IsSomeAnd c (λ d. Claims d.verb d.names f before after)) (left (e ∙ sym done))
-    (command_done law none c (words_fit words) files files' before after shows given (λ d. refl))
+    (command_done law none c (fits_of c (commands_are_whole words)) files files' before after shows given (λ d. refl))

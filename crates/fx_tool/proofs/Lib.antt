@@ -7,5 +7,6 @@ pub mod Listed
 pub mod Making
 pub mod Placed
 pub mod ReadSoFar
+pub mod TestWords
 pub mod TwoPlaced
 pub mod WrittenSoFar

@@ -7,7 +7,7 @@ use Rattle.std.specs.String.{string_bytes}
 use Rattle.std.proofs.Common.{◌++◌, IsTrue, true, false}
 use Rattle.std.proofs.lemmas.List.{append-nil}
 use Rattle.fx_tool.specs.Answer.{Answer, Delivers}
-use Rattle.fx_tool.specs.Command.{texts}
+use Rattle.fx_words.specs.Command.{texts}
 use Rattle.fx_tool.specs.Placing.{DeliversAll}
 use Rattle.fx_tool.specs.Status.{IsBuiltStatus, is_spoken}
 use Rattle.fx_tool.specs.Writing.{GrowsBy}

@@ -8,8 +8,8 @@ use Rattle.std.proofs.lemmas.Map.Text.{is_eq-slice_cmp}
 use Rattle.std.proofs.lemmas.Slice.Eq.{bytes_eq-Decides}
 use Rattle.std.specs.FinMap.{get, get-insert, insert}
 use Rattle.fx_io.specs.Shelf.{Files}
-use Rattle.fx_tool.specs.Command.{names_fit}
-use Rattle.fx_tool.specs.declared.command.Verb.TheVariants.{Make}
+use Rattle.fx_words.specs.Command.{names_fit}
+use Rattle.fx_words.specs.declared.command.Verb.TheVariants.{Make}
 
 -- ---- the names
 
@@ -26,24 +26,23 @@ pub record AreThree (names : List (List ℕ)) : Type 0 where
   pub are : names ≡ first ∷ second ∷ third ∷ []
   pub apart : Apart first second third
 
-no_two : (plain p q r : Bool) → (plain && (not (p || (q || false)) && (not (r || false) && true))) ≡ true →
+no_two : (p q r : Bool) → (not (p || (q || false)) && (not (r || false) && true)) ≡ true →
     (p ≡ false) × (q ≡ false) × (r ≡ false)
-no_two false p q r h = cc
-no_two true true q r h = cc
-no_two true false true r h = cc
-no_two true false false true h = cc
-no_two true false false false h = (refl, refl, refl)
+no_two true q r h = cc
+no_two false true r h = cc
+no_two false false true h = cc
+no_two false false false h = (refl, refl, refl)
 
-first_holds : (a b c : Bool) → (a && b && c) ≡ true → a ≡ true
-first_holds true b c h = refl
-first_holds false b c h = cc
+first_holds : (a b : Bool) → (a && b) ≡ true → a ≡ true
+first_holds true b h = refl
+first_holds false b h = cc
 
 pub three_names : (names : List (List ℕ)) → names_fit Make names ≡ true → AreThree names
 three_names [] h = cc
 three_names (a ∷ []) h = cc
 three_names (a ∷ b ∷ []) h = cc
 three_names (a ∷ b ∷ c ∷ []) h =
-    let (second, third, last) = no_two _ (bytes_eq b a) (bytes_eq c a) (bytes_eq c b) h in
+    let (second, third, last) = no_two (bytes_eq b a) (bytes_eq c a) (bytes_eq c b) h in
     record {
       first = a;
       second = b;
@@ -53,7 +52,7 @@ three_names (a ∷ b ∷ c ∷ []) h =
     }
 three_names (a ∷ b ∷ c ∷ d ∷ others) h =
     absurd (let count : length (a ∷ b ∷ c ∷ d ∷ others) ≡ 3 =
-    eqb-true (length (a ∷ b ∷ c ∷ d ∷ others)) 3 (first_holds _ _ _ h) in omega (arith, count))
+    eqb-true (length (a ∷ b ∷ c ∷ d ∷ others)) 3 (first_holds _ _ h) in omega (arith, count))
 
 unequal_back : (a b : List ℕ) → bytes_eq a b ≡ false → bytes_eq b a ≡ false
 unequal_back a b h = elim (cases_Bool (bytes_eq b a)) [

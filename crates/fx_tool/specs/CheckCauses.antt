@@ -10,10 +10,10 @@ use Rattle.fx_cert.specs.Certificate.{Certificate, IsTextOf}
 use Rattle.fx_block.specs.Passes.{Passes}
 use Rattle.fx_lines.specs.Verdict.{accepted_lines}
 use Rattle.fx_tool.specs.Answer.{says}
-use Rattle.fx_tool.specs.Command.{command_of}
+use Rattle.fx_words.specs.Words.{command_of}
 use Rattle.fx_tool.specs.Running.{answer_of}
-use Rattle.fx_tool.specs.declared.command.Verb.TheVariants.{Check}
-use Rattle.fx_tool.specs.declared.operand.TheConstants.{LONGEST_FILE}
+use Rattle.fx_words.specs.declared.command.Verb.TheVariants.{Check}
+use Rattle.fx_words.specs.declared.operand.TheConstants.{LONGEST_FILE}
 use Rattle.fx_tool.specs.declared.status.Status.{Status}
 use Rattle.fx_tool.specs.declared.status.Status.TheVariants.{Done, Refused, BadFilter, BadCode, BadCertificate}
 

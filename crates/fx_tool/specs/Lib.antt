@@ -1,7 +1,6 @@
 pub mod Answer
 pub mod Check
 pub mod CheckCauses
-pub mod Command
 pub mod Ending
 pub mod Gain
 pub mod Judgement

@@ -28,8 +28,8 @@ use Rattle.fx_tool.specs.Plan.{Plan, Ends, Reads, answer_by}
 use Rattle.fx_tool.specs.Refused.{refused_filter}
 use Rattle.fx_tool.specs.Writing.{GrowsBy}
 use Rattle.fx_tool.specs.declared.judgement.Detail.TheVariants.{Brief}
-use Rattle.fx_tool.specs.declared.operand.Operand.TheVariants as operand
-use Rattle.fx_tool.specs.declared.operand.TheConstants.{LONGEST_FILE}
+use Rattle.fx_words.specs.declared.operand.Operand.TheVariants as operand
+use Rattle.fx_words.specs.declared.operand.TheConstants.{LONGEST_FILE}
 use Rattle.fx_tool.specs.declared.status.Status.TheVariants.{Done, NoDesign, Unbuildable}
 
 -- ---- the plan

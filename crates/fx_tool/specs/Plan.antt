@@ -6,9 +6,10 @@ use Rattle.fx_io.specs.Shelf.{Files}
 use Rattle.fx_io.specs.Outside.{Outside, OnlyReads}
 use Rattle.fx_io.specs.declared.shelf.IoFault.{IoFault}
 use Rattle.fx_tool.specs.Answer.{Answer, absent}
-use Rattle.fx_tool.specs.Operand.{limit_of, too_long}
+use Rattle.fx_words.specs.Operand.{limit_of}
+use Rattle.fx_tool.specs.Operand.{too_long}
 use Rattle.fx_tool.specs.Reading.{read_calls}
-use Rattle.fx_tool.specs.declared.operand.Operand.{Operand}
+use Rattle.fx_words.specs.declared.operand.Operand.{Operand}
 
 -- an answer, or the next file's content first
 pub data Plan : Type 0 where

@@ -7,7 +7,8 @@ use Rattle.fx_io.specs.Shelf.{Files, KeepsNames}
 use Rattle.fx_io.specs.declared.shelf.IoFault.{IoFault}
 use Rattle.fx_tool.specs.Answer.{Answer, says, Delivers}
 use Rattle.fx_tool.specs.Check.{check_plan, FilesAreSound, Headline}
-use Rattle.fx_tool.specs.Command.{Command, command_of, operands_of, targets_of}
+use Rattle.fx_words.specs.Command.{Command, operands_of, targets_of}
+use Rattle.fx_words.specs.Words.{command_of}
 use Rattle.fx_tool.specs.Gain.{gain_plan, FileEncloses, Gains}
 use Rattle.fx_tool.specs.Make.{make_plan, FilterIsServed, Makes}
 use Rattle.fx_tool.specs.Placing.{ArePlaced, PlacesNothing, placings, with_placed}
@@ -16,22 +17,23 @@ use Rattle.fx_tool.specs.Reading.{Has}
 use Rattle.fx_tool.specs.Show.{show_plan, Shows}
 use Rattle.fx_tool.specs.Simulate.{simulate_plan, Simulates}
 use Rattle.fx_tool.specs.Status.{IsBuiltStatus}
-use Rattle.fx_tool.specs.declared.command.Verb.{Verb}
-use Rattle.fx_tool.specs.declared.command.Verb.TheVariants.{Check, Gain, Make, Report, Show, Simulate}
+use Rattle.fx_words.specs.declared.command.Verb.{Verb}
+use Rattle.fx_words.specs.declared.command.Verb.TheVariants.{Check, Gain, Make, Report, Show, Simulate}
 use Rattle.fx_tool.specs.declared.judgement.Detail.TheVariants.{Brief, Full}
-use Rattle.fx_tool.specs.declared.operand.Operand.{Operand}
+use Rattle.fx_words.specs.declared.operand.Operand.{Operand}
 use Rattle.fx_tool.specs.declared.status.Status.{Status}
 use Rattle.fx_tool.specs.declared.status.Status.TheVariants.{Done, Usage, ReadFault, WriteFault}
 
 -- ---- one arm for each command
 
-abbrev pub plan_of : Verb → Plan
-plan_of Check = check_plan Brief
-plan_of Gain = gain_plan
-plan_of Make = make_plan
-plan_of Report = check_plan Full
-plan_of Show = show_plan
-plan_of Simulate = simulate_plan
+-- what it does with its files, of all that was given for its operands
+abbrev pub plan_of : Verb → List (List ℕ) → Plan
+plan_of Check names = check_plan Brief
+plan_of Gain names = gain_plan
+plan_of Make names = make_plan
+plan_of Report names = check_plan Full
+plan_of Show names = show_plan
+plan_of Simulate names = simulate_plan
 
 -- what its code shows of the files of these names beside the answer, where that is status 0
 abbrev pub Establishes : Verb → List (List ℕ) → Option Files → Type 0
@@ -76,7 +78,11 @@ targets_to (Some c) = targets_of c.verb c.names
 
 abbrev pub plan_to : Option Command → Plan
 plan_to None = Ends (says Usage usage_line)
-plan_to (Some c) = plan_of c.verb
+plan_to (Some c) = plan_of c.verb c.names
+
+-- the run follows the plan of what is asked
+abbrev pub FollowsAsked : Option Command → Outside → Outside → Result Answer IoFault → Type 0
+FollowsAsked c before now result = Follows (operands_to c) (names_to c) (plan_to c) before now result
 
 -- the files that are read may be read
 abbrev pub CanRead : Outside → List (List ℕ) → Type 0
@@ -96,8 +102,7 @@ calls_of words told = let c = command_of words in plan_calls (operands_to c) (na
 
 -- the run follows the plan of the words
 abbrev pub FollowsWords : List (List ℕ) → Outside → Outside → Result Answer IoFault → Type 0
-FollowsWords words before now result = let c = command_of words in
-    Follows (operands_to c) (names_to c) (plan_to c) before now result
+FollowsWords words before now result = FollowsAsked (command_of words) before now result
 
 -- what the code shows of the files that the words name, where the answer is status 0
 abbrev pub EstablishesTo : Option Command → Option Files → Type 0

@@ -18,17 +18,18 @@ ghost use Rattle.fx_tool.specs.Check.{
 };
 ghost use Rattle.fx_tool.specs.Plan.{Follows};
 ghost use Rattle.fx_tool.specs.Reading.{Has};
-ghost use Rattle.fx_tool.specs.declared.operand.Operand.TheVariants as operand;
+ghost use Rattle.fx_words.specs.declared.operand.Operand.TheVariants as operand;
 
 use crate::ending::Ending;
 use crate::judgement::{Detail, told};
-use crate::operand::{Operand, read_operand, too_long};
+use crate::operand::{read_operand, too_long};
 use crate::refused::{refused_certificate, refused_code, refused_filter};
 use fx_cert::{Cert, read_cert};
 use fx_code::Program;
 use fx_files::{Filter, read_filter};
 use fx_io::{IoFault, Shelf};
 use fx_text::read_code;
+use fx_words::Operand;
 use std::alloc::{AllocError, Global};
 
 // How the bytes of a certificate end, for a filter and a program.

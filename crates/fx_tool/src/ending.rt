@@ -1,7 +1,7 @@
 ghost use Rattle.std.specs.Prelude.{◌≡◌, ◌≢◌, ◌⊎◌, ◌≤◌, ◌∷◌, [], IfOk, IsTrue};
 ghost use Rattle.fx_io.specs.Causes.{Rose};
 ghost use Rattle.fx_tool.specs.Answer.{says, Delivers};
-ghost use Rattle.fx_tool.specs.Command.{texts};
+ghost use Rattle.fx_words.specs.Command.{texts};
 ghost use Rattle.fx_tool.specs.Placing.{placings, DeliversAll, PlacesAll};
 ghost use Rattle.fx_tool.specs.Judgement.{led_by};
 ghost use Rattle.fx_tool.specs.Status.{is_spoken, IsBuiltStatus};

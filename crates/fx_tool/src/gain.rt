@@ -11,16 +11,17 @@ ghost use Rattle.fx_tool.specs.Gain.{
   GainsEnclose,
 };
 ghost use Rattle.fx_tool.specs.Plan.{Follows};
-ghost use Rattle.fx_tool.specs.declared.operand.Operand.TheVariants as operand;
+ghost use Rattle.fx_words.specs.declared.operand.Operand.TheVariants as operand;
 
 use crate::ending::Ending;
-use crate::operand::{Operand, read_operand, too_long};
+use crate::operand::{read_operand, too_long};
 use crate::refused::refused_filter;
 use crate::status::Status;
 use fx_files::{Filter, read_filter};
 use fx_findings::{gain_lines, no_length_lines};
 use fx_gain::{PeakFault, peak};
 use fx_io::{IoFault, Shelf};
+use fx_words::Operand;
 use std::alloc::{AllocError, Global};
 
 // The gains of a filter, or why there are none.

@@ -4,7 +4,6 @@
 ghost use Rattle.std.specs.Prelude.{◌≡◌};
 
 mod check;
-mod command;
 mod ending;
 mod gain;
 mod judgement;
@@ -19,8 +18,7 @@ mod simulate;
 mod status;
 mod writing;
 
-pub use command::{Command, VERBS, Verb, command_of};
-pub use operand::{LONGEST_FILE, LONGEST_SAMPLES, Operand};
+use fx_words::{LONGEST_FILE, LONGEST_SAMPLES};
 use reading::PIECE;
 pub use running::{check_ends_by_its_files, run};
 pub use status::{NO_WORDS, Status};

@@ -7,10 +7,10 @@ ghost use Rattle.fx_tool.specs.Make.{files_of, made_answer, make_plan, made_of_b
 ghost use Rattle.fx_tool.specs.Make.{AreShort, FilterIsServed, IsServed};
 ghost use Rattle.fx_tool.specs.Plan.{Follows};
 ghost use Rattle.fx_tool.specs.Reading.{Has};
-ghost use Rattle.fx_tool.specs.declared.operand.Operand.TheVariants as operand;
+ghost use Rattle.fx_words.specs.declared.operand.Operand.TheVariants as operand;
 
 use crate::ending::{Ending, MadeFiles};
-use crate::operand::{Operand, read_operand, too_long};
+use crate::operand::{read_operand, too_long};
 use crate::refused::refused_filter;
 use crate::status::Status;
 use fx_block::inequalities_make_sound;
@@ -21,6 +21,7 @@ use fx_findings::{design_lines, no_design_lines, structure_fault_line};
 use fx_io::{IoFault, Shelf};
 use fx_make::{Made, MakeFault, make};
 use fx_text::{write_code, written_code_is_spelled};
+use fx_words::Operand;
 use std::alloc::{AllocError, Global};
 
 // The files of what is made, and its lines.

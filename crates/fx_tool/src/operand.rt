@@ -1,56 +1,27 @@
-//! The files of a command.
+//! Reading the files of a command.
 ghost use Rattle.std.specs.Prelude.{◌≡◌, IfOk, IfErr, IsTrue, option_map};
 ghost use Rattle.fx_io.specs.Outside.{OnlyReads};
 ghost use Rattle.fx_io.specs.declared.shelf.IoFault.TheVariants.{NoMemory};
-ghost use Rattle.fx_tool.specs.Operand.{limit_of, too_long};
+ghost use Rattle.fx_words.specs.Operand.{limit_of};
+ghost use Rattle.fx_tool.specs.Operand.{too_long};
 ghost use Rattle.fx_tool.specs.Reading.{Has, HoldsContent, read_calls};
 
 use crate::ending::Ending;
 use crate::reading::read_file;
 use crate::status::Status;
 use fx_io::{IoFault, Shelf};
+use fx_words::Operand;
 use std::alloc::Global;
 
-/// The most bytes of a filter, of code or of a certificate.
-pub const LONGEST_FILE: usize = 1_048_576;
-
-/// The most bytes of samples.
-pub const LONGEST_SAMPLES: usize = 16_777_216;
-
-/// A file that a command reads.
-#[derive(Clone, Copy, Debug, PartialEq, Eq)]
-pub enum Operand {
-    /// A filter.
-    Filter,
-    /// A program.
-    Code,
-    /// A certificate.
-    Certificate,
-    /// Samples.
-    Samples,
-}
-
-impl Operand {
-    /// The most bytes that the file may have.
-    pub fn limit(self) -> usize
-        ensures { result ≡ limit_of self }
-    {
-        match self {
-            Operand::Filter | Operand::Code | Operand::Certificate => LONGEST_FILE,
-            Operand::Samples => LONGEST_SAMPLES,
-        }
-    }
-
-    // The line of a longer file.
-    fn too_long_line(self) -> &'static str
-        ensures { result.now ≡ (too_long self).text }
-    {
-        match self {
-            Operand::Filter => "too long FILTER\n",
-            Operand::Code => "too long CODE\n",
-            Operand::Certificate => "too long CERT\n",
-            Operand::Samples => "too long SAMPLES\n",
-        }
+// The line of a longer file.
+fn too_long_line(operand: Operand) -> &'static str
+    ensures { result.now ≡ (too_long operand).text }
+{
+    match operand {
+        Operand::Filter => "too long FILTER\n",
+        Operand::Code => "too long CODE\n",
+        Operand::Certificate => "too long CERT\n",
+        Operand::Samples => "too long SAMPLES\n",
     }
 }
 
@@ -84,5 +55,5 @@ pub fn too_long(alloc: Global, operand: Operand) -> Result<Ending, IoFault>
     ensures answer { IfOk result (λ e. e ≡ too_long operand) }
     ensures fault { IfErr result (λ fault. fault ≡ NoMemory) }
 {
-    Ok(Ending::line(alloc, Status::TooLong, operand.too_long_line())?)
+    Ok(Ending::line(alloc, Status::TooLong, too_long_line(operand))?)
 }

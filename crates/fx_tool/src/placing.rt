@@ -1,6 +1,6 @@
 //! Placing of files.
 ghost use Rattle.std.specs.Prelude.{map};
-ghost use Rattle.fx_tool.specs.Command.{texts};
+ghost use Rattle.fx_words.specs.Command.{texts};
 ghost use Rattle.fx_tool.specs.Placing.{placings, PlacesAll};
 
 use fx_io::{IoFault, Shelf};

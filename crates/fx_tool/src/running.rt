@@ -1,5 +1,7 @@
 //! A run of a command line.
-ghost use Rattle.std.specs.Prelude.{◌≡◌, ◌+◌, length, take};
+ghost use Rattle.std.specs.Prelude.{◌≡◌, length, option_map, take};
+ghost use Rattle.fx_words.specs.Command.{named, operand_words, operands_of, texts};
+ghost use Rattle.fx_words.specs.Words.{IsWhole};
 ghost use Rattle.fx_tool.specs.Answer.{WhereDone};
 ghost use Rattle.fx_tool.specs.CheckCauses.{
   BadCertificateExactly,
@@ -8,22 +10,22 @@ ghost use Rattle.fx_tool.specs.CheckCauses.{
   PassingIsAccepted,
   RefusedExactly,
 };
-ghost use Rattle.fx_tool.specs.Command.{command_of, operands_of, target_count, texts};
 ghost use Rattle.fx_tool.specs.Plan.{Follows, MayRead};
 ghost use Rattle.fx_tool.specs.Running.{
   plan_of,
+  reads_to,
   targets_to,
   CanRead,
   Establishes,
+  EstablishesTo,
   EstablishesWords,
-  FollowsWords,
+  FollowsAsked,
   Leaves,
   PlacesAnswer,
   Runs,
 };
 
 use crate::check::check;
-use crate::command::{Verb, command_of};
 use crate::ending::Ending;
 use crate::gain::gain;
 use crate::judgement::Detail;
@@ -34,6 +36,7 @@ use crate::status::Status;
 use fx_block::none_fails_where_all_hold;
 use fx_cert::certificate_is_read_exactly;
 use fx_io::{IoFault, Shelf, Sink};
+use fx_words::{Command, Verb, read_words};
 use std::alloc::Global;
 
 // All commands that there will be, also those that are not built yet.
@@ -48,9 +51,9 @@ fn command_ending<S: Shelf>(
     names: &[String],
     shelf: &mut S,
 ) -> Result<Ending, IoFault>
-    requires count { length names.now ≡ length (operands_of verb) + target_count verb }
+    requires count { length names.now ≡ length (operand_words verb) }
     requires readable { MayRead (S.seen shelf.old) (take (length (operands_of verb)) (texts names.now)) }
-    ensures follows { Follows (operands_of verb) (texts names.now) (plan_of verb)
+    ensures follows { Follows (operands_of verb) (texts names.now) (plan_of verb (texts names.now))
         (S.seen shelf.old) (S.seen shelf.new) result }
     ensures establishes { WhereDone result (Establishes verb (texts names.now) (S.seen shelf.old).files) }
 {
@@ -85,23 +88,28 @@ fn command_ending<S: Shelf>(
     }
 }
 
-// The same for the words of a command line.
-fn ending<S: Shelf>(alloc: Global, words: &[String], shelf: &mut S) -> Result<Ending, IoFault>
-    requires { CanRead (S.seen shelf.old) (texts words.now) }
-    ensures follows { FollowsWords (texts words.now) (S.seen shelf.old) (S.seen shelf.new) result }
-    ensures establishes { WhereDone result (EstablishesWords (texts words.now) (S.seen shelf.old).files) }
+// The same for what the words ask for.
+fn ending<S: Shelf>(
+    alloc: Global,
+    asked: Option<Command<'_>>,
+    shelf: &mut S,
+) -> Result<Ending, IoFault>
+    requires whole { IsWhole (option_map named asked) }
+    requires readable { MayRead (S.seen shelf.old) (reads_to (option_map named asked)) }
+    ensures follows { FollowsAsked (option_map named asked.entry) (S.seen shelf.old) (S.seen shelf.new) result }
+    ensures establishes { WhereDone result (EstablishesTo (option_map named asked.entry) (S.seen shelf.old).files) }
 {
-    match command_of(words) {
+    match asked {
         Some(command) => command_ending(alloc, command.verb, command.names, shelf),
         None => Ok(Ending::line(alloc, Status::Usage, USAGE)?),
     }
 }
 
-// The names of the files that a command line places.
-fn targets(words: &[String]) -> &[String]
-    ensures { texts result.now ≡ targets_to (command_of (texts words.now)) }
+// The names of the files that it places.
+fn targets(asked: Option<Command<'_>>) -> &[String]
+    ensures { texts result.now ≡ targets_to (option_map named asked.entry) }
 {
-    match command_of(words) {
+    match asked {
         Some(command) => command.verb.targets(command.names),
         None => &[],
     }
@@ -115,8 +123,12 @@ fn answer<S: Shelf, K: Sink>(alloc: Global, words: &[String], shelf: &mut S, out
     ensures placed { PlacesAnswer (texts words.now) (S.seen shelf.old).files (S.seen shelf.new).files result }
     ensures establishes { result ≡ Status.Done → EstablishesWords (texts words.now) (S.seen shelf.old).files }
 {
-    match ending(alloc, words, shelf) {
-        Ok(ending) => ending.deliver(targets(words), shelf, out),
+    let Ok(asked) = read_words(alloc, words) else {
+        return Status::NoMemory;
+    };
+    let command = asked.command();
+    match ending(alloc, command, shelf) {
+        Ok(ending) => ending.deliver(targets(command), shelf, out),
         Err(IoFault::Failed) => Status::ReadFault,
         Err(IoFault::NoMemory) => Status::NoMemory,
     }

@@ -3,15 +3,16 @@ ghost use Rattle.std.specs.Prelude.{◌≡◌, ◌∷◌, [], IfOk, IsTrue};
 ghost use Rattle.fx_files.specs.Reading.{filter_of_bytes};
 ghost use Rattle.fx_tool.specs.Plan.{Follows};
 ghost use Rattle.fx_tool.specs.Show.{show_plan, shown};
-ghost use Rattle.fx_tool.specs.declared.operand.Operand.TheVariants.{Filter};
+ghost use Rattle.fx_words.specs.declared.operand.Operand.TheVariants.{Filter};
 
 use crate::ending::Ending;
-use crate::operand::{Operand, read_operand, too_long};
+use crate::operand::{read_operand, too_long};
 use crate::refused::refused_filter;
 use crate::status::Status;
 use fx_files::read_filter;
 use fx_io::{IoFault, Shelf};
 use fx_lines::shown_filter;
+use fx_words::Operand;
 use std::alloc::{AllocError, Global};
 
 // How a filter's bytes end: it is shown, or its first fault is told.

@@ -8,10 +8,10 @@ ghost use Rattle.fx_text.specs.Reading.{code_in};
 ghost use Rattle.fx_tool.specs.Answer.{says};
 ghost use Rattle.fx_tool.specs.Plan.{Follows};
 ghost use Rattle.fx_tool.specs.Simulate.{outputs, samples_plan, simulate_plan};
-ghost use Rattle.fx_tool.specs.declared.operand.Operand.TheVariants.{Code, Samples};
+ghost use Rattle.fx_words.specs.declared.operand.Operand.TheVariants.{Code, Samples};
 
 use crate::ending::Ending;
-use crate::operand::{Operand, read_operand, too_long};
+use crate::operand::{read_operand, too_long};
 use crate::refused::refused_code;
 use crate::status::Status;
 use fx_code::Program;
@@ -19,6 +19,7 @@ use fx_io::{IoFault, Shelf};
 use fx_lines::sample_fault_line;
 use fx_sim::{SampleFault, simulate as run_on};
 use fx_text::read_code;
+use fx_words::Operand;
 use std::alloc::{AllocError, Global};
 
 // Refused samples end the run with their line.

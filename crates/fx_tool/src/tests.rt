@@ -1,7 +1,8 @@
 // Runs with ample memory: one row of a table for each kind of answer.
 ghost use Rattle.std.specs.Prelude.{◌≡◌, ◌∷◌, [], IfOk, IsTrue, codes};
 ghost use Rattle.std.specs.FinMap as map;
-ghost use Rattle.fx_tool.specs.Command.{command_of, texts};
+ghost use Rattle.fx_words.specs.Command.{texts};
+ghost use Rattle.fx_words.specs.Words.{command_of};
 ghost use Rattle.fx_tool.specs.Running.{reads_to};
 
 use crate::{Status, run};
@@ -44,7 +45,7 @@ const RECURSIVE_CERT: &[u8] = b"fixif certificate 1\nlength 64\nrows 2\nX 201\nX
 const ACCEPTED: &[u8] = b"accepted\nerror 0 0.500000000\n";
 
 // The words of `check` on the files f, c and k.
-#[tactic(auto, unfolding(crate::specs::Command::command_of, crate::specs::Command::verb_in))]
+#[tactic(auto, using(crate::proofs::TestWords::reads_of_check))]
 fn check_words(alloc: Global) -> Result<Vec<String>, AllocError>
     ensures { IfOk result (λ words. reads_to (command_of (texts words.items))
         ≡ codes "f" ∷ codes "c" ∷ codes "k" ∷ []) }

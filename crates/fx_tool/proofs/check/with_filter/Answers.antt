@@ -1,7 +1,7 @@
 use Rattle.std.proofs.Common.{[], ◌∷◌, ◌∙◌, ap, sym, Some, option_map}
 use Rattle.fx_text.specs.Reading.{code_in}
 use Rattle.fx_tool.specs.Check.{code_plan}
-use Rattle.fx_tool.specs.declared.operand.Operand.TheVariants as operand
+use Rattle.fx_words.specs.declared.operand.Operand.TheVariants as operand
 use Rattle.fx_tool.proofs.Followed.{after_read}
 use Rattle.fx_tool.proofs.check.with_filter.Goals as goal
 

@@ -1,6 +1,6 @@
 use Rattle.std.proofs.Common.{sym, subst, drop, take, length, ◌-◌, refl, Ok, ◌∙◌, ap, String, Global}
 use Rattle.std.specs.String.{string_bytes}
-use Rattle.fx_tool.specs.Command.{texts}
+use Rattle.fx_words.specs.Command.{texts}
 use Rattle.fx_tool.specs.Placing.{placings, PlacesAll}
 use Rattle.fx_tool.proofs.Placed.{contents_in, first_placing, then_others}
 use Rattle.fx_tool.proofs.placing.+place_all.Goals as goal

@@ -1,4 +1,4 @@
-use Rattle.fx_tool.specs.Command.{texts}
+use Rattle.fx_words.specs.Command.{texts}
 use Rattle.fx_tool.proofs.Headline.{done_claims}
 use Rattle.fx_tool.proofs.running.run.Goals as goal
 

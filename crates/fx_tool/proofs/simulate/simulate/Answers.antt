@@ -1,7 +1,7 @@
 use Rattle.std.proofs.Common.{[], ◌∷◌, ◌∙◌, ap, sym, Some, option_map}
 use Rattle.fx_text.specs.Reading.{code_in}
 use Rattle.fx_tool.specs.Simulate.{samples_plan}
-use Rattle.fx_tool.specs.declared.operand.Operand.TheVariants.{Code, Samples}
+use Rattle.fx_words.specs.declared.operand.Operand.TheVariants.{Code, Samples}
 use Rattle.fx_tool.proofs.Followed.{after_read}
 use Rattle.fx_tool.proofs.simulate.simulate.Goals as goal
 

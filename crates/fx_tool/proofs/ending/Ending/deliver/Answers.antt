@@ -1,6 +1,6 @@
 use Rattle.std.proofs.Common.{Err, ◌∙◌, ap, sym}
 use Rattle.fx_tool.specs.Answer.{Answer}
-use Rattle.fx_tool.specs.Command.{texts}
+use Rattle.fx_words.specs.Command.{texts}
 use Rattle.fx_tool.specs.Placing.{placings}
 use Rattle.fx_tool.proofs.Placed.{not_delivered, not_delivered_memory, spoken_text}
 use Rattle.fx_tool.proofs.ending.Ending.deliver.Goals as goal

@@ -1,6 +1,6 @@
 use Rattle.std.proofs.Common.{◌∙◌, ap, sym}
 use Rattle.fx_tool.specs.Answer.{Answer}
-use Rattle.fx_tool.specs.Command.{texts}
+use Rattle.fx_words.specs.Command.{texts}
 use Rattle.fx_tool.specs.Ending.{contents_of}
 use Rattle.fx_tool.proofs.Placed.{places_none}
 use Rattle.fx_tool.proofs.ending.Ending.place.Goals as goal

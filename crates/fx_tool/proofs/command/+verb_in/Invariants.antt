@@ -1,5 +1,0 @@
-use Rattle.std.proofs.Common.{length}
-use Rattle.fx_tool.proofs.command.+verb_in.Given as goal
-
-abbrev pub decreases-verb_in : goal.decreases-verb_in
-decreases-verb_in l = length l.verbs.now
