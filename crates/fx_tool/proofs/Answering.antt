@@ -1,6 +1,6 @@
 -- What the answers of the plans have in common, and what a run gives of them that fails before its text.
 use Rattle.std.proofs.Common.{◌≡◌, ◌⊎◌, inl, inr, ℕ, ◌≤◌, ℤ, nat_le, Bool, true, false, cond, IsTrue, arith, List, []}
-use Rattle.std.proofs.Common.{◌∷◌, length, Option, Some, None, Result, Ok, Err, refl, sym, ap, subst, ◌∙◌}
+use Rattle.std.proofs.Common.{◌∷◌, length, take, Option, Some, None, Result, Ok, Err, refl, sym, ap, subst, ◌∙◌}
 use Rattle.std.proofs.lemmas.List.{append-nil}
 use Rattle.std.specs.FinMap.{get}
 use Rattle.fx_io.specs.Outside.{Outside, Output}
@@ -294,6 +294,8 @@ pub leaves_read_fault : (words : List (List ℕ)) (shelf shelf' : Outside) (out 
 leaves_read_fault words shelf shelf' out result e f = record {
   answer = gives_read_fault words shelf.files out.told;
   quiet = λ h. refl;
+  grows = ([], grows_nothing out.told);
+  text_last = inr refl;
   only = refl;
   read_fault = λ h. f.shelf.cause.failed e;
   write_fault = λ h. cc;
@@ -322,6 +324,8 @@ pub leaves_no_memory : (words : List (List ℕ)) (shelf shelf' : Outside) (out :
 leaves_no_memory words shelf shelf' out result e f = record {
   answer = gives_no_memory words shelf.files out.told;
   quiet = λ h. cc;
+  grows = ([], grows_nothing out.told);
+  text_last = inr refl;
   only = refl;
   read_fault = λ h. cc;
   write_fault = λ h. cc;
@@ -385,6 +389,15 @@ leaves_placed words (t ∷ ts) before now after answer same faults is targets no
     (subst (λ told. ArePlaced (placings_of words answer) (Rose now.place_faults after.place_faults) told after.files)
     same placed)))
 
+-- what an ending places is what the answer of the words does
+places_all_of : (words : List (List ℕ)) (before now after : Outside) (answer : Answer) → now.files ≡ before.files →
+    OfWords words before.files (λ a. a ≡ answer) → after.files ≡ all_placed (placings_of words answer) now.files →
+    WhereTold before.files (λ files. after.files ≡ Some (with_placed (placings_of words (answer_of words files)) files))
+places_all_of words before now after answer same is placed =
+    where_told before.files _ (λ files e.
+    placed ∙ ap (all_placed (placings_of words answer)) (same ∙ e)
+    ∙ ap (λ a. Some (with_placed (placings_of words a) files)) (sym (is_answer words before.files files answer e is)))
+
 pub leaves_delivered : (words : List (List ℕ)) (before now after : Outside) (out out' : Output) (answer : Answer)
     (status : Status) → FollowsWords words before now (Ok answer) →
     DeliversAll answer (placings_of words answer) now after out out' status →
@@ -398,6 +411,14 @@ leaves_delivered words before now after out out' answer status f d =
           (λ a e. subst (λ a. Delivers a status out.told out'.told) (sym e) d.answer)
           (follows_answer words before now answer f);
       quiet = λ e. absurd (d.spoken e);
+      grows = (take d.answer.prefix.0 answer.text, d.answer.prefix.1);
+      text_last = elim d.text_last [
+        | inl placed ↦ inl (
+          places_all_of words before now after answer f.shelf.files (follows_answer words before now answer f) placed.0,
+          placed.1 ∙ f.shelf.place_faults,
+        )
+        | inr same ↦ inr same
+      ];
       only = d.only;
       read_fault = λ e. absurd (d.spoken e);
       write_fault = λ e. subst (λ n. Rose n after.place_faults ⊎ Rose out.faults out'.faults) f.shelf.place_faults

@@ -58,10 +58,13 @@ go_on name bytes ps failed before middle after e h = record {
   count = suc h.count;
   files = elim h.files [
     | inl same ↦ inl (same ∙ placed_first name bytes (take h.count ps) before middle e)
-    | inr (failed, others) ↦ inr (
-      failed,
-      subst (λ told. SameBut (name_at ps h.count) told after)
-          (placed_first name bytes (take h.count ps) before middle e) others,
+    | inr (next, (failed, others)) ↦ inr (
+      omega (arith, next),
+      (
+        failed,
+        subst (λ told. SameBut (name_at ps h.count) told after)
+            (placed_first name bytes (take h.count ps) before middle e) others,
+      ),
     )
   ];
 }
@@ -103,14 +106,18 @@ then_others name bytes ps before middle after first rest ok one others =
 placing_failed : (name bytes : List ℕ) (ps : List (List ℕ × List ℕ)) (before middle : Outside)
     (fault : IoFault) (first : Result (Unit {0}) IoFault) → first ≡ Err fault → Places name bytes before middle first →
     (middle.files ≡ all_placed [] before.files)
-    ⊎ (Rose before.place_faults middle.place_faults × SameBut name (all_placed [] before.files) middle.files)
+    ⊎ ((0 < suc (length ps))
+        × (Rose before.place_faults middle.place_faults × SameBut name (all_placed [] before.files) middle.files))
 placing_failed name bytes ps before middle NoMemory first e one =
     inl (one.no_memory e ∙ placed_none before.files)
 placing_failed name bytes ps before middle Failed first e one =
     inr (
-      one.cause.failed e,
-      subst (λ told. SameBut name told middle.files) (placed_none before.files)
-          (subst (λ r. OnErr r (SameBut name before.files middle.files)) e one.failed),
+      omega arith,
+      (
+        one.cause.failed e,
+        subst (λ told. SameBut name told middle.files) (placed_none before.files)
+            (subst (λ r. OnErr r (SameBut name before.files middle.files)) e one.failed),
+      ),
     )
 
 same_fault : {X Y : Type 0} (before now : ℕ) (fault : IoFault) (first : Result X IoFault) (second : Result Y IoFault) →
@@ -181,6 +188,10 @@ delivered a ps before after out out' placed status ok h d spoken only fault kept
   whole = λ e. subst (λ r. OnOk r (after.files ≡ all_placed ps before.files)) ok h.whole;
   files = h.files;
   none = h.none;
+  text_last = inl (
+    subst (λ r. OnOk r (after.files ≡ all_placed ps before.files)) ok h.whole,
+    kept_where_ok before.place_faults after.place_faults placed tt ok h.cause,
+  );
   only = only;
   spoken = spoken;
   write_fault = λ e. inr (fault e);
@@ -211,6 +222,7 @@ not_delivered a ps before after out placed e spoken h = record {
   whole = λ e. absurd (spoken e);
   files = h.files;
   none = h.none;
+  text_last = inr refl;
   only = refl;
   spoken = λ e. cc;
   write_fault = λ _. inl (h.cause.failed e);
@@ -236,6 +248,7 @@ not_delivered_memory a ps before after out placed e spoken h = record {
   whole = λ e. absurd (spoken e);
   files = h.files;
   none = h.none;
+  text_last = inr refl;
   only = refl;
   spoken = λ e. cc;
   write_fault = λ e. cc;

@@ -1,5 +1,5 @@
 -- What a run leaves of the files that it places.
-use Rattle.std.specs.Prelude.{◌≡◌, ◌⊎◌, ◌+◌, ◌≤◌, ℕ, List, [], ◌∷◌, length, take, slice_index_or, Option, Result}
+use Rattle.std.specs.Prelude.{◌≡◌, ◌⊎◌, ◌+◌, ◌<◌, ◌≤◌, ℕ, List, [], ◌∷◌, length, take, slice_index_or, Option, Result}
 use Rattle.std.specs.Prelude.{OnOk}
 use Rattle.std.specs.FinMap.{insert}
 use Rattle.std.specs.Option.{option_map}
@@ -30,11 +30,12 @@ all_placed ps told = option_map (with_placed ps) told
 abbrev pub name_at : List (List ℕ × List ℕ) → ℕ → List ℕ
 name_at ps k = (slice_index_or ps k ([], [])).0
 
--- The first so many were placed, and no other. Or the placing of the next failed too; then its file may hold anything.
+-- The first so many were placed, and no other. Or there is a next one, whose placing failed too; then its file may hold
+-- anything.
 pub record ArePlaced (ps : List (List ℕ × List ℕ)) (failed : Type 0) (before after : Option Files) : Type 0 where
   pub count : ℕ
   pub files : (after ≡ all_placed (take count ps) before)
-      ⊎ (failed × SameBut (name_at ps count) (all_placed (take count ps) before) after)
+      ⊎ ((count < length ps) × (failed × SameBut (name_at ps count) (all_placed (take count ps) before) after))
 
 -- ---- a shelf
 
@@ -55,13 +56,18 @@ pub record PlacesAll (ps : List (List ℕ × List ℕ)) (before after : Outside)
   pub few : after.calls ≤ before.calls + length ps
   pub names : KeepsNames before.readable after.readable
 
--- the same, and the text of an answer was put behind them
+-- all files are placed and no placing failed
+abbrev pub AllPlaced : List (List ℕ × List ℕ) → Outside → Outside → Type 0
+AllPlaced ps before after = (after.files ≡ all_placed ps before.files) × (after.place_faults ≡ before.place_faults)
+
+-- the same, and behind all of them the text of an answer was put
 pub record DeliversAll (wanted : Answer) (ps : List (List ℕ × List ℕ)) (before after : Outside) (out out' : Output)
     (status : Status) : Type 0 where
   pub answer : Delivers wanted status out.told out'.told
   pub whole : status ≡ wanted.status → after.files ≡ all_placed ps before.files
   pub files : ArePlaced ps (Rose before.place_faults after.place_faults) before.files after.files
   pub none : ps ≡ [] → PlacesNothing before after
+  pub text_last : AllPlaced ps before after ⊎ (out' ≡ out)
   pub only : IsBuiltStatus status
   pub spoken : status ≡ ReadFault → ⊥
   pub write_fault : status ≡ WriteFault →

@@ -17,6 +17,7 @@ use Rattle.fx_tool.specs.Reading.{Has}
 use Rattle.fx_tool.specs.Show.{show_plan, Shows}
 use Rattle.fx_tool.specs.Simulate.{simulate_plan, Simulates}
 use Rattle.fx_tool.specs.Status.{IsBuiltStatus}
+use Rattle.fx_tool.specs.Writing.{Grows}
 use Rattle.fx_words.specs.declared.command.Verb.{Verb}
 use Rattle.fx_words.specs.declared.command.Verb.TheVariants.{Check, Gain, Make, Report, Show, Simulate}
 use Rattle.fx_tool.specs.declared.judgement.Detail.TheVariants.{Brief, Full}
@@ -133,6 +134,13 @@ LeavesFiles words targets before after =
     ArePlaced (placings_of words (answer_of words files)) (Rose before.place_faults after.place_faults)
     before.files after.files)
 
+-- all files of the answer are placed, where the shelf tells its files, and no placing failed
+abbrev pub PlacesAllOf : List (List ℕ) → Outside → Outside → Type 0
+PlacesAllOf words before after =
+    WhereTold before.files (λ files.
+    after.files ≡ Some (with_placed (placings_of words (answer_of words files)) files))
+    × (after.place_faults ≡ before.place_faults)
+
 -- what status 0 claims, where the shelf tells its files before the run: it tells them after it too, and of those the
 -- command's claim holds
 abbrev pub DoneClaims : List (List ℕ) → Option Files → Option Files → Option (List ℕ) → Option (List ℕ) → Type 0
@@ -142,10 +150,12 @@ DoneClaims words told told' before after =
 
 -- What a run gives, and leaves of shelf and output. The status and the text are those of the answer, or a read, a write
 -- or memory failed; a fault was counted just where it is the status. Files are read in no more calls than the plan takes,
--- and each is placed in one.
+-- and each is placed in one. The text is put behind all of them, and nothing where one is not placed.
 pub record Leaves (words : List (List ℕ)) (shelf shelf' : Outside) (out out' : Output) (status : Status) : Type 0 where
   pub answer : OfWords words shelf.files (λ a. Delivers a status out.told out'.told)
   pub quiet : status ≡ ReadFault → out'.told ≡ out.told
+  pub grows : Grows out.told out'.told
+  pub text_last : PlacesAllOf words shelf shelf' ⊎ (out' ≡ out)
   pub only : IsBuiltStatus status
   pub read_fault : status ≡ ReadFault → Rose shelf.read_faults shelf'.read_faults
   pub write_fault : status ≡ WriteFault → Rose shelf.place_faults shelf'.place_faults ⊎ Rose out.faults out'.faults
