@@ -1,0 +1,12 @@
+//! What the commands answer where devices fail, files are absent, cut or too long: tests alone, over files and output
+//! in memory.
+#![tactic(auto)]
+
+#[cfg(test)]
+mod case;
+#[cfg(test)]
+mod damage;
+#[cfg(test)]
+mod devices;
+#[cfg(test)]
+mod jobs;
