@@ -107,7 +107,7 @@ placing_failed : (name bytes : List ℕ) (ps : List (List ℕ × List ℕ)) (bef
     (fault : IoFault) (first : Result (Unit {0}) IoFault) → first ≡ Err fault → Places name bytes before middle first →
     (middle.files ≡ all_placed [] before.files)
     ⊎ ((0 < suc (length ps))
-        × (Rose before.place_faults middle.place_faults × SameBut name (all_placed [] before.files) middle.files))
+    × (Rose before.place_faults middle.place_faults × SameBut name (all_placed [] before.files) middle.files))
 placing_failed name bytes ps before middle NoMemory first e one =
     inl (one.no_memory e ∙ placed_none before.files)
 placing_failed name bytes ps before middle Failed first e one =

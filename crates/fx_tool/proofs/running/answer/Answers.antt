@@ -40,6 +40,20 @@ returns-in-Err-Failed-clause-placed g c =
     places_at_read_fault (texts c.args.words.now) (g.S.Shelf.seen c.args.shelf.now).files
     (g.S.Shelf.seen c.ending.new.shelf).files c.ending.ensures.follows.shelf.files
 
+pub returns-clause-leaves : goal.returns-clause-leaves
+returns-clause-leaves g c =
+    let words = texts c.args.words.now in
+    let before = g.S.Shelf.seen c.args.shelf.now in
+    let now = g.S.Shelf.seen c.ending.new.shelf in
+    leaves_no_memory words before now (g.K.Sink.seen c.args.out.now) c.ending.result (c.in-Err-NoMemory.is
+    ∙ ap Err c.in-Err-NoMemory.field-0-is)
+    (of_words words _ before now c.ending.result (c.command-command.ensures ∙ c.in-Ok.ensures) c.ending.ensures.follows)
+
+pub returns-clause-placed : goal.returns-clause-placed
+returns-clause-placed g c =
+    places_at_no_memory (texts c.args.words.now) (g.S.Shelf.seen c.args.shelf.now).files
+    (g.S.Shelf.seen c.ending.new.shelf).files
+
 pub returns-in_default-clause-leaves : goal.returns-in_default-clause-leaves
 returns-in_default-clause-leaves g c =
     let shelf = g.S.Shelf.seen c.args.shelf.now in
