@@ -25,7 +25,7 @@ use Rattle.fx_words.specs.Words.{found_command, read_of, tool_app, value_of, val
 use Rattle.fx_words.specs.Words.{with_operands, with_verbs}
 use Rattle.fx_words.proofs.PlainForm.{clap_agrees}
 use Rattle.fx_words.specs.declared.command.Verb.{Verb}
-use Rattle.fx_words.specs.declared.command.Verb.TheVariants.{Check, Gain, Make, Report, Show, Simulate}
+use Rattle.fx_words.specs.declared.command.Verb.TheVariants.{Check, Gain, Large, Make, Report, Show, Simulate}
 
 -- ---- a walk without faults ends at a command
 
@@ -204,6 +204,7 @@ verb_of_word : (v : Verb) → verb_of (word_of v) ≡ Some v
 unfolding verb_in
 verb_of_word Check = refl
 verb_of_word Gain = refl
+verb_of_word Large = refl
 verb_of_word Make = refl
 verb_of_word Report = refl
 verb_of_word Show = refl

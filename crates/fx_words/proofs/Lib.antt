@@ -1,3 +1,4 @@
 pub mod Completeness
+pub mod NumberWords
 pub mod PlainForm
 pub mod ToolReads

@@ -14,7 +14,7 @@ use Rattle.fx_words.specs.Command.{Command, is_plain, names_fit, operand_words, 
 use Rattle.fx_words.specs.Command.{with_names, word_of}
 use Rattle.fx_words.specs.Words.{command_of, read_of, tool_app, verb_app, with_operands, with_verbs, ClapAgrees}
 use Rattle.fx_words.specs.declared.command.Verb.{Verb}
-use Rattle.fx_words.specs.declared.command.Verb.TheVariants.{Check, Gain, Make, Report, Show, Simulate}
+use Rattle.fx_words.specs.declared.command.Verb.TheVariants.{Check, Gain, Large, Make, Report, Show, Simulate}
 
 -- ---- a plain word is a value
 
@@ -88,6 +88,10 @@ reads_gain : (program f : Text) → IsValue f → Reads program Gain (f ∷ [])
 unfolding read_of tool_app with_verbs verb_app with_operands verb_in clap_on_literals
 reads_gain program f a = rw (a.no_dashes, a.no_long, a.no_short) refl
 
+reads_large : (program f : Text) → IsValue f → Reads program Large (f ∷ [])
+unfolding read_of tool_app with_verbs verb_app with_operands verb_in clap_on_literals
+reads_large program f a = rw (a.no_dashes, a.no_long, a.no_short) refl
+
 reads_simulate : (program f g : Text) → IsValue f → IsValue g → Reads program Simulate (f ∷ g ∷ [])
 unfolding read_of tool_app with_verbs verb_app with_operands verb_in clap_on_literals
 reads_simulate program f g a b =
@@ -116,6 +120,7 @@ reads : (program : Text) (v : Verb) (names : List Text) → (length names == len
     list_all is_plain names ≡ true → Reads program v names
 reads program Check = by_three (Reads program Check) (reads_check program)
 reads program Gain = by_one (Reads program Gain) (reads_gain program)
+reads program Large = by_one (Reads program Large) (reads_large program)
 reads program Make = by_three (Reads program Make) (reads_make program)
 reads program Report = by_three (Reads program Report) (reads_report program)
 reads program Show = by_one (Reads program Show) (reads_show program)

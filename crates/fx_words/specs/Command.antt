@@ -4,10 +4,11 @@ use Rattle.std.specs.Prelude.{codes, String, Option, Some, None, option_and_then
 use Rattle.std.specs.List.{list_all, list_any, starts_with}
 use Rattle.std.specs.String.{string_bytes}
 use Rattle.std.specs.Str.{bytes_eq}
+use Rattle.fx_words.specs.Number.{is_one_number}
 use Rattle.fx_words.specs.declared.command.Command as declared
 use Rattle.fx_words.specs.declared.command.TheConstants.{VERBS}
 use Rattle.fx_words.specs.declared.command.Verb.{Verb}
-use Rattle.fx_words.specs.declared.command.Verb.TheVariants.{Check, Gain, Make, Report, Show, Simulate}
+use Rattle.fx_words.specs.declared.command.Verb.TheVariants.{Check, Gain, Large, Make, Report, Show, Simulate}
 use Rattle.fx_words.specs.declared.operand.Operand.{Operand}
 use Rattle.fx_words.specs.declared.operand.Operand.TheVariants.{Filter, Code, Certificate, Samples}
 
@@ -32,6 +33,7 @@ are_different (name ∷ names) = not (is_among names name) && are_different name
 abbrev pub word_of : Verb → List ℕ
 word_of Check = codes "check"
 word_of Gain = codes "gain"
+word_of Large = codes "large"
 word_of Make = codes "make"
 word_of Report = codes "report"
 word_of Show = codes "show"
@@ -41,6 +43,7 @@ word_of Simulate = codes "simulate"
 abbrev pub operand_words : Verb → List (List ℕ)
 operand_words Check = codes "FILTER" ∷ codes "CODE" ∷ codes "CERT" ∷ []
 operand_words Gain = codes "FILTER" ∷ []
+operand_words Large = codes "NUMBER" ∷ []
 operand_words Make = codes "FILTER" ∷ codes "CODE" ∷ codes "CERT" ∷ []
 operand_words Report = codes "FILTER" ∷ codes "CODE" ∷ codes "CERT" ∷ []
 operand_words Show = codes "FILTER" ∷ []
@@ -50,6 +53,7 @@ operand_words Simulate = codes "CODE" ∷ codes "SAMPLES" ∷ []
 abbrev pub operands_of : Verb → List Operand
 operands_of Check = Filter ∷ Code ∷ Certificate ∷ []
 operands_of Gain = Filter ∷ []
+operands_of Large = []
 operands_of Make = Filter ∷ []
 operands_of Report = Filter ∷ Code ∷ Certificate ∷ []
 operands_of Show = Filter ∷ []
@@ -60,8 +64,9 @@ abbrev pub targets_of : Verb → List (List ℕ) → List (List ℕ)
 targets_of Make (filter ∷ targets) = targets
 targets_of _ names = []
 
--- what it wants of its operands beside their number
+-- what it wants of its operands beside their count
 abbrev pub allows : Verb → List (List ℕ) → Bool
+allows Large names = is_one_number names
 allows Make names = are_different names
 allows _ names = true
 

@@ -1,3 +1,4 @@
 pub mod Command
+pub mod Number
 pub mod Operand
 pub mod Words

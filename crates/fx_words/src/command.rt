@@ -19,6 +19,7 @@ ghost use Rattle.fx_words.specs.Command.{
   word_of,
 };
 
+use crate::number::is_one_number;
 use crate::operand::Operand;
 
 /// A command.
@@ -28,6 +29,8 @@ pub enum Verb {
     Check,
     /// Finds the peak gains of a filter.
     Gain,
+    /// Runs the job of a number.
+    Large,
     /// Makes a program and a certificate for a filter.
     Make,
     /// Judges them, and tells what the errors are made of.
@@ -39,9 +42,10 @@ pub enum Verb {
 }
 
 /// Each command.
-pub const VERBS: [Verb; 6] = [
+pub const VERBS: [Verb; 7] = [
     Verb::Check,
     Verb::Gain,
+    Verb::Large,
     Verb::Make,
     Verb::Report,
     Verb::Show,
@@ -56,6 +60,7 @@ impl Verb {
         match self {
             Verb::Check => "check",
             Verb::Gain => "gain",
+            Verb::Large => "large",
             Verb::Make => "make",
             Verb::Report => "report",
             Verb::Show => "show",
@@ -70,6 +75,7 @@ impl Verb {
         match self {
             Verb::Check | Verb::Make | Verb::Report => &["FILTER", "CODE", "CERT"],
             Verb::Gain | Verb::Show => &["FILTER"],
+            Verb::Large => &["NUMBER"],
             Verb::Simulate => &["CODE", "SAMPLES"],
         }
     }
@@ -83,6 +89,7 @@ impl Verb {
                 &[Operand::Filter, Operand::Code, Operand::Certificate]
             }
             Verb::Gain | Verb::Make | Verb::Show => &[Operand::Filter],
+            Verb::Large => &[],
             Verb::Simulate => &[Operand::Code, Operand::Samples],
         }
     }
@@ -97,11 +104,13 @@ impl Verb {
         }
     }
 
-    // What it wants of its operands beside their number: no two files of `make` have the same name.
+    // What it wants of its operands beside their count: that of `large` is a number, and no two files of `make` have
+    // the same name.
     fn allows(self, names: &[String]) -> bool
         ensures { result ≡ allows self (texts names.now) }
     {
         match self {
+            Verb::Large => is_one_number(names),
             Verb::Make => are_different(names),
             _ => true,
         }

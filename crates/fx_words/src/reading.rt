@@ -5,6 +5,7 @@ ghost use Rattle.clap.specs.declared.builder.command.Command.TheViews.{out-Comma
 ghost use Rattle.fx_words.specs.Command.{named, texts, with_names};
 ghost use Rattle.fx_words.specs.Words.{
   asked_of,
+  bare_tool,
   command_of,
   found_command,
   operand,
@@ -96,14 +97,19 @@ fn with_verbs<'a>(
     }
 }
 
-#[tactic(auto, unfolding(crate::specs::Words::tool_app))]
+// The tool with no command yet.
+fn bare_tool<'a>(alloc: Global) -> clap::Command<'a>
+    ensures { app_of result ≡ bare_tool }
+{
+    clap::Command::new(alloc, "fixif")
+        .subcommand_required(true)
+        .disable_help_subcommand(true)
+}
+
 fn tool<'a>(alloc: Global) -> Result<clap::Command<'a>, AllocError>
     ensures { IfOk result (λ c. app_of c ≡ tool_app) }
 {
-    let tool = clap::Command::new(alloc, "fixif")
-        .subcommand_required(true)
-        .disable_help_subcommand(true);
-    with_verbs(alloc, tool, &VERBS)
+    with_verbs(alloc, bare_tool(alloc), &VERBS)
 }
 
 /// A command with what was given for its operands.

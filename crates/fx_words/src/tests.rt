@@ -1,5 +1,5 @@
 // Words with ample memory: which command they ask for, with which names.
-use crate::{Verb, read_words};
+use crate::{Verb, number_of, read_words};
 use std::alloc::{AllocError, Global};
 use std::test::Fail;
 
@@ -53,6 +53,11 @@ fn words_ask_for_commands(rt: HostRuntime) -> Result<(), Fail> {
         ),
         (&["fixif", "make", "a", "b", "b"], None),
         (&["fixif", "make", "a", "--", "-b", "-b"], None),
+        (&["fixif", "large", "0042"], Some((Verb::Large, &["0042"]))),
+        (&["fixif", "large", "--", "7"], Some((Verb::Large, &["7"]))),
+        (&["fixif", "large", "+7"], None),
+        (&["fixif", "large", "4294967296"], None),
+        (&["fixif", "large"], None),
         (&["fixif", "gain", "a", "b"], None),
         (&["fixif", "gain"], None),
         (&["fixif", "gain", "-a"], None),
@@ -67,6 +72,23 @@ fn words_ask_for_commands(rt: HostRuntime) -> Result<(), Fail> {
     ];
     for (texts, wanted) in table {
         assert!(rt; ask_for(alloc, texts, *wanted)?);
+    }
+    Ok(())
+}
+
+#[test]
+fn numbers_of_words(rt: HostRuntime) -> Result<(), Fail> {
+    for (word, number) in [
+        ("0", Some(0)),
+        ("0000000001", Some(1)),
+        ("4294967295", Some(4294967295)),
+        ("4294967296", None),
+        ("00000000001", None),
+        ("", None),
+        ("+1", None),
+        ("1 ", None),
+    ] {
+        assert_eq!(rt; number_of(word), number);
     }
     Ok(())
 }
