@@ -6,5 +6,5 @@ use Rattle.fx_words.proofs.number.number_of.Goals as goal
 pub returns : goal.returns
 returns c =
     let digits : all_ascii_digits c.args.word.now ≡ true = search rules in
-    let short : length c.args.word.now ≤ 10 = omega (arith, c.if-word-gt10.false) in
+    let short : length c.args.word.now ≤ 10 = search rules in
     c.ok.ensures.value ∙ parsed c.args.word.now c.parse.result digits short c.parse.ensures.value.0
