@@ -225,9 +225,6 @@ module _ (filter : Filter) (kept : FilterFits filter) (system : EquationsFit fil
 
   -- the value of an output's row at the denominator of its block is the exact value
   module _ (o : ℕ) (port : o < length filter.outputs) (u : ℕ → ℕ → ℤ) (k : ℕ) where
-    z_at : ℤ
-    z_at = run_of (original_net filter) (common filter.equations) u k (output_row filter o)
-
     in_net : output_row filter o < (original_net filter).rows
     in_net = let h = row_inside filter kept system o port in let c = count_inside filter system in let e =
         net_rows filter in omega (arith, h, c, e)

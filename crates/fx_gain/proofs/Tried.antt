@@ -19,9 +19,9 @@ use Rattle.fx_block.specs.declared.least.Least.{Least}
 use Rattle.fx_block.specs.declared.least.Least.TheVariants.{Rest as ToldRest, Over as ToldOver, Slow as ToldSlow}
 use Rattle.fx_block.specs.declared.least.LengthWhy.TheVariants.{Bounds, Range}
 use Rattle.fx_gain.specs.Enclosing.{rest_of}
-use Rattle.fx_gain.specs.Lengths.{bound_alone, bounds_failure, first_of, first_serving, length_failure}
+use Rattle.fx_gain.specs.Lengths.{bound_alone, bounds_failure, first_of, length_failure}
 use Rattle.fx_gain.specs.Lengths.{original_count, raises_alone, raises_up, range_failure, row_range}
-use Rattle.fx_gain.specs.Lengths.{serving_or, unrest}
+use Rattle.fx_gain.specs.Lengths.{unrest}
 use Rattle.fx_gain.specs.Rows.{row_targets}
 use Rattle.fx_gain.specs.declared.fails.LengthFail.{LengthFail}
 use Rattle.fx_sweep.specs.Target.{start_of}
@@ -103,16 +103,6 @@ pub passed_range : (net : Net) (filter : Filter) (m : ℕ) →
 passed_range net filter m e =
     sym (ap (λ (o : Option TargetRange). option_or (option_map (λ (range : TargetRange).
     record { length = m; input = 0; why = Range range }) o) (bounds_failure net filter m)) e)
-
--- the first of several lengths
-pub serves_here : (net : Net) (filter : Filter) (m : ℕ) (later : List ℕ) → length_failure net filter m ≡ None →
-    first_serving net filter (m ∷ later) ≡ Some m
-serves_here net filter m later e = ap (λ (o : Option LengthFail). serving_or m o (first_serving net filter later)) e
-
-pub serves_later : (net : Net) (filter : Filter) (m : ℕ) (later : List ℕ) (fail : LengthFail) →
-    length_failure net filter m ≡ Some fail → first_serving net filter (m ∷ later) ≡ first_serving net filter later
-serves_later net filter m later fail e =
-    ap (λ (o : Option LengthFail). serving_or m o (first_serving net filter later)) e
 
 -- no row meets a range within a length that does not fail
 pub row_within : (net : Net) (filter : Filter) (m i : ℕ) → length_failure net filter m ≡ None →

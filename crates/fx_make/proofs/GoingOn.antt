@@ -3,7 +3,7 @@ use Rattle.std.proofs.Common.{◌≡◌, ℕ, ◌+◌, ◌<◌, ◌≤◌, refl,
 use Rattle.std.proofs.Common.{List, [], ◌∷◌, ◌++◌, length, take, drop, get_or}
 use Rattle.std.specs.Prelude.{Some, None, Result}
 use Rattle.std.specs.List.{flat_map}
-use Rattle.std.proofs.lemmas.List.{take_more, take-append-drop, take_all}
+use Rattle.std.proofs.lemmas.List.{take_more, take-append-drop}
 use Rattle.fx_files.specs.Filter.{Filter}
 use Rattle.fx_make.specs.Candidates.{Candidate, Passing}
 use Rattle.fx_make.specs.Made.{TellsSearch}
@@ -98,13 +98,3 @@ module _ (try : Candidate → Result Passing Fail) where
         subst (λ p. TellsSearch f p (Some made) after) (sym (part_rest (AllFailed fs) xs (i + 1)))
         (some_stays f (searched try (AllFailed fs) (flat_map part (take (i + 1) xs))) made after after
         (flat_map part (drop (i + 1) xs)) (subst (λ p. TellsSearch f p (Some made) after) (sym here) h))
-
-    -- each fails
-    pub parts_failed : (f : Filter) (xs : List ℕ) (n : ℕ) (fs after : List Failed) → length xs ≤ n →
-        searched try (AllFailed fs) (flat_map part (take n xs)) ≡ AllFailed after →
-        TellsSearch f (searched try (AllFailed fs) (flat_map part xs)) None after
-    parts_failed f xs n fs after l h =
-        let all : take n xs ≡ xs = take_all n xs l in
-        let same : searched try (AllFailed fs) (flat_map part xs) ≡ AllFailed after =
-        ap (λ ys. searched try (AllFailed fs) (flat_map part ys)) (sym all) ∙ h in
-        subst (λ p. TellsSearch f p None after) (sym same) refl

@@ -2,7 +2,7 @@ mod AtRest
 mod FirstLength
 mod FormatsOf
 mod GoingOn
-mod Listed
+pub mod Listed
 mod MadeCertificates
 mod MadePrograms
 mod OfForm

@@ -287,8 +287,8 @@ impl<const N: usize> Totals<N> {
         products(&self.input_gains, line_at(t, PORTS, N + PORTS), bounds)
     }
 
-    /// What was cut off the weights adds to it, times 2^64, for bounds of the N rows, each 0 to 2147483647: the widths of
-    /// the rows times these. It is at most 2^113.
+    /// What was cut off the weights adds to it, times 2^64, for bounds of the N rows, each 0 to 2147483647: the widths
+    /// of the rows times these. It is at most 2^113.
     pub fn width_part(&self, t: usize, x: &[i64]) -> i128
         requires target { t < self.now.filled }
         requires count { length x.now ≡ N }
