@@ -1,5 +1,5 @@
 -- A quotient guessed by a ratio is right, or one too low.
-use Rattle.std.proofs.Common.{◌≡◌, ℕ, ◌+◌, ◌-◌, ◌*◌, ◌/◌, ◌%◌, ◌^◌, ◌<◌, ◌≤◌, arith, refl, ◌∙◌, le_of_lt}
+use Rattle.std.proofs.Common.{◌≡◌, ℕ, ◌+◌, ◌*◌, ◌/◌, ◌%◌, ◌^◌, ◌<◌, ◌≤◌, arith, refl, ◌∙◌, le_of_lt}
 use Rattle.std.proofs.lemmas.Nat.{div-add-mod'}
 use Rattle.std.proofs.Math.Nat.{mul-le-mul_left, mul-le-mul_right, mul-lt-mul_of_pos_right, lt_of_mul-lt-mul_right}
 use Rattle.fx_math.proofs.Rounding as rounding
@@ -51,5 +51,13 @@ guess_below x mag t r g x_in h e = rw e (omega (arith, below), omega (arith, abo
       mul-lt-mul_of_pos_right x_in h.positive,
     )
 
-pub left_below : (n g t : ℕ) → 0 < t → n < g * t + t + t → n - g * t - t < t
-left_below n g t h k = omega (arith, h, k)
+-- what is left at the guess, from low bits, where it is below 2 ^ 64
+pub low_rest_is : (g t n r : ℕ) → t < 2 ^ 63 → r < 2 ^ 64 → g * t ≤ n → n < g * t + t + t →
+    (r + g % 2 ^ 64 * t) % 2 ^ 64 ≡ n % 2 ^ 64 → g * t + r ≡ n
+low_rest_is g t n r narrow fits low high same =
+    let parts : g / 2 ^ 64 * t * 2 ^ 64 + g % 2 ^ 64 * t ≡ g * t = halves t (g / 2 ^ 64) (g % 2 ^ 64)
+    ∙ rw (div-add-mod' g (2 ^ 64)) refl in
+    omega (arith, parts, narrow, fits, low, high, same)
+  where
+    halves : (t a b : ℕ) → a * t * 2 ^ 64 + b * t ≡ (a * 2 ^ 64 + b) * t
+    halves t a b = omega arith

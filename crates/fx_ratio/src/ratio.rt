@@ -32,6 +32,17 @@ impl Model for Ratio {
     ghost inverse_ok = { λ a h. rw (← h.ratio_is, ← h.den_is) (λ i. a) };
 }
 
+// The product of a number that is wider than 64 bits.
+#[inline(never)]
+fn wide_span(w: i128, fraction: Frac) -> Span
+    requires { unsigned_abs w < 2 ^ FACTOR_BITS }
+    ensures ends { result ≡ multiple w fraction }
+    ensures rounded { IsRoundedProduct w fraction.num (den_value fraction.den) result.lo result.hi }
+{
+    let (low, high) = mul_ends(w, fraction);
+    Span::between(low, high)
+}
+
 impl Ratio {
     /// Of a fraction. This takes one division; the products take none.
     pub fn new(fraction: Frac) -> Ratio
@@ -55,7 +66,7 @@ impl Ratio {
 
     /// The product of `w / 2^64` with the fraction, rounded outward: what `Iv::multiple` answers. A `w` of 2^64 or more
     /// in magnitude takes as long as there.
-    #[inline]
+    #[inline(always)]
     pub fn multiple(self, w: i128) -> Span
         requires { unsigned_abs w < 2 ^ FACTOR_BITS }
         ensures ends { result ≡ multiple w self }
@@ -64,8 +75,7 @@ impl Ratio {
         if w.unsigned_abs() < 1 << u64::BITS {
             small_span(w, self.fraction.num(), self.den, self.ratio)
         } else {
-            let (low, high) = mul_ends(w, self.fraction);
-            Span::between(low, high)
+            wide_span(w, self.fraction)
         }
     }
 

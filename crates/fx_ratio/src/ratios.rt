@@ -24,26 +24,36 @@ impl Ratios {
         })
     }
 
+    // The ratio of the coefficient at a place, made anew.
+    #[cold]
+    #[inline(never)]
+    fn anew(&mut self, place: usize, coef: Frac) -> Ratio
+        ensures { result ≡ coef }
+    {
+        let ratio = Ratio::new(coef);
+        if place < self.at.len() {
+            self.at[place] = ratio;
+        }
+        ratio
+    }
+
     // The ratio of the coefficient at a place.
-    #[inline]
+    #[inline(always)]
     fn ratio(&mut self, place: usize, coef: Frac) -> Ratio
         ensures { result ≡ coef }
     {
-        if place >= self.at.len() {
-            return Ratio::new(coef);
+        if place < self.at.len() {
+            let kept = self.at[place];
+            if kept.fraction() == coef {
+                return kept;
+            }
         }
-        let kept = self.at[place];
-        if kept.fraction() == coef {
-            return kept;
-        }
-        let ratio = Ratio::new(coef);
-        self.at[place] = ratio;
-        ratio
+        self.anew(place, coef)
     }
 
     /// The product of `w / 2^64` with the coefficient at a place, rounded outward: what `Iv::multiple` answers. Only
     /// where the coefficient is new at its place, or there is no room for it, does this take a division.
-    #[inline]
+    #[inline(always)]
     pub fn multiple(&mut self, place: usize, w: i128, coef: Frac) -> Span
         requires { unsigned_abs w < 2 ^ FACTOR_BITS }
         ensures ends { result ≡ multiple w coef }

@@ -1,4 +1,4 @@
-ghost use Rattle.std.specs.Prelude.{◌≡◌, ◌^◌, ◌<◌, ◌≤◌, ◌+ℤ◌, ◌≤ℤ◌, pos, unsigned_abs};
+ghost use Rattle.std.specs.Prelude.{◌≡◌, ◌↔◌, ◌^◌, ◌<◌, ◌≤◌, ◌+ℤ◌, ◌≤ℤ◌, pos, unsigned_abs, IsTrue};
 ghost use Rattle.fx_nums.specs.Arithmetic.{width};
 ghost use Rattle.fx_nums.specs.Interval.{IntervalFits, IsInterval, opposite, plus, point};
 
@@ -39,7 +39,7 @@ impl Span {
     }
 
     // From a low end on, so many times 2^-64 wide.
-    #[inline]
+    #[inline(always)]
     pub(crate) fn above(low: i128, width: u128) -> Span
         requires low { unsigned_abs low ≤ 2 ^ 119 }
         requires width { width ≤ 2 ^ 60 }
@@ -49,7 +49,7 @@ impl Span {
     }
 
     // From one end to the other.
-    #[inline]
+    #[inline(always)]
     pub(crate) fn between(low: i128, high: i128) -> Span
         requires ordered { low ≤ℤ high }
         requires low { unsigned_abs low < 2 ^ INTERVAL_BITS }
@@ -62,8 +62,16 @@ impl Span {
         }
     }
 
+    /// Whether it is the number 0 alone.
+    #[inline(always)]
+    pub fn is_zero(self) -> bool
+        ensures { IsTrue result ↔ self ≡ point (pos 0) }
+    {
+        self.low == 0 && self.width == 0
+    }
+
     /// The low end, times 2^64.
-    #[inline]
+    #[inline(always)]
     pub fn lo(self) -> i128
         ensures value { result ≡ self.lo }
         ensures kept { IsInterval self }
@@ -72,7 +80,7 @@ impl Span {
     }
 
     /// The high end, times 2^64.
-    #[inline]
+    #[inline(always)]
     pub fn hi(self) -> i128
         ensures value { result ≡ self.hi }
         ensures kept { IsInterval self }
@@ -81,7 +89,7 @@ impl Span {
     }
 
     /// The sums of the numbers of both.
-    #[inline]
+    #[inline(always)]
     pub fn add(self, o: Span) -> Span
         requires left { IntervalFits self SUMMAND_BITS }
         requires right { IntervalFits o SUMMAND_BITS }
@@ -104,7 +112,7 @@ impl Span {
     }
 
     /// The length from the low end to the high one, times 2^64. It is below 2^121.
-    #[inline]
+    #[inline(always)]
     pub fn width(self) -> i128
         ensures value { result ≡ width self }
         ensures positive { pos 0 ≤ℤ result }

@@ -32,6 +32,29 @@ fn wide_weights_are_widened(rt: HostRuntime) -> Result<(), Fail> {
 }
 
 #[test]
+fn denominators_are_narrow_or_wide(rt: HostRuntime) -> Result<(), Fail> {
+    let third = Ratio::new(fraction(333_333_333_333_333_333, Den::Ten(18)));
+    assert_eq!(rt;
+        third.mul_ends(1 << 63),
+        (3_074_457_345_618_258_599, 3_074_457_345_618_258_600)
+    );
+    let wide = Ratio::new(fraction(-3_333_333_333_333_333_333, Den::Ten(19)));
+    assert_eq!(rt;
+        wide.mul_ends(1 << 63),
+        (-3_074_457_345_618_258_603, -3_074_457_345_618_258_602)
+    );
+    Ok(())
+}
+
+#[test]
+fn zero_is_no_span_with_a_width(rt: HostRuntime) -> Result<(), Fail> {
+    let tenth = Ratio::new(fraction(1, Den::Ten(1)));
+    assert_eq!(rt; tenth.multiple(0).is_zero(), true);
+    assert_eq!(rt; tenth.multiple(1).is_zero(), false);
+    Ok(())
+}
+
+#[test]
 fn each_place_has_its_coefficient(rt: HostRuntime) -> Result<(), Fail> {
     let mut ratios = Ratios::new(rt.alloc(), 2)?;
     let (three, tenth) = (fraction(3, Den::Ten(0)), fraction(1, Den::Ten(1)));

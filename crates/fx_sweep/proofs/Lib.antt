@@ -16,3 +16,4 @@ pub mod Tested
 pub mod Repeated
 pub mod OnceMore
 pub mod SweptOn
+pub mod Weightless

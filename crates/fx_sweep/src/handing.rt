@@ -38,7 +38,7 @@ impl NetRatios {
 
 // Adds the multiple of a weight, the low end of a row's interval, by the coefficient at a place of a table to one
 // interval.
-#[inline]
+#[inline(always)]
 fn add_multiple(at: &mut [Span], j: usize, row: Span, coef: Frac, place: usize, ratios: &mut Ratios)
     requires place { j < length at.old }
     requires weight { unsigned_abs row.lo ≤ greatest }
@@ -54,7 +54,8 @@ fn add_multiple(at: &mut [Span], j: usize, row: Span, coef: Frac, place: usize, 
 }
 
 // Adds the multiples of a weight, the low end of a row's interval, by the coefficients of row `i` of a table.
-pub fn add_row(table: &Cross, i: usize, row: Span, at: &mut [Span], ratios: &mut Ratios)
+#[inline(never)]
+fn add_links(table: &Cross, i: usize, row: Span, at: &mut [Span], ratios: &mut Ratios)
     requires inside { i < table.now.rows }
     requires columns { table.now.columns ≤ length at.old }
     requires weight { unsigned_abs row.lo ≤ greatest }
@@ -64,9 +65,6 @@ pub fn add_row(table: &Cross, i: usize, row: Span, at: &mut [Span], ratios: &mut
     ensures narrow { (b w : ℕ) → AreNarrow b w at.old → AreNarrow (b + product_bound) (w + product_apart) at.new }
 {
     entries_have_places(table);
-    if row.lo() == 0 {
-        return;
-    }
     for link in table.row(i) {
         add_multiple(
             at,
@@ -77,6 +75,23 @@ pub fn add_row(table: &Cross, i: usize, row: Span, at: &mut [Span], ratios: &mut
             ratios,
         );
     }
+}
+
+// The same, with no call where the weight is 0.
+#[inline(always)]
+pub fn add_row(table: &Cross, i: usize, row: Span, at: &mut [Span], ratios: &mut Ratios)
+    requires inside { i < table.now.rows }
+    requires columns { table.now.columns ≤ length at.old }
+    requires weight { unsigned_abs row.lo ≤ greatest }
+    requires room { (j : ℕ) → IntervalFits (interval_in at.old j) SUMMAND_BITS }
+    ensures count { length at.new ≡ length at.old }
+    ensures value { interval_in at.new ≡ with_multiples row.lo (entry_at table.now i) (interval_in at.old) }
+    ensures narrow { (b w : ℕ) → AreNarrow b w at.old → AreNarrow (b + product_bound) (w + product_apart) at.new }
+{
+    if row.lo() == 0 {
+        return;
+    }
+    add_links(table, i, row, at, ratios);
 }
 
 // Sets intervals to what the rows of a table take with their weights, the low ends of their intervals.

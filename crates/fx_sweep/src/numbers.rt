@@ -58,6 +58,7 @@ ghost use Rattle.fx_sweep.specs.Steps.{
 ghost use Rattle.fx_sweep.specs.Swept.{gain_in, interval_in, range_of, whole_in, no_intervals};
 ghost use Rattle.fx_sweep.specs.Target.{TargetFits, power, start_of};
 ghost use Rattle.fx_sweep.specs.Weights.{carry, settle, to_input};
+ghost use Rattle.fx_sweep.specs.declared.target.Place.TheVariants.{Rest};
 
 use crate::handing::{NetRatios, add_row, hand_out};
 use crate::limits::{GREATEST_LENGTH, GREATEST_SHIFT};
@@ -91,6 +92,7 @@ pub struct Numbers {
 }
 
 // The greater magnitude of an interval's ends.
+#[inline(always)]
 pub fn magnitude_of(v: Span) -> u128
     ensures value { result ≡ magnitude v }
     ensures fits { result < 2 ^ 120 }
@@ -99,6 +101,7 @@ pub fn magnitude_of(v: Span) -> u128
 }
 
 // Tests the number in a place against the limit.
+#[inline(always)]
 fn within(place: Place, number: u128) -> Result<(), RangeAt>
     requires { number < 2 ^ 127 }
     ensures range { range_of result ≡ reached place number }
@@ -115,6 +118,7 @@ fn within(place: Place, number: u128) -> Result<(), RangeAt>
 }
 
 // Raises one gain, where it stays below the limit.
+#[inline(always)]
 fn raise(gains: &mut [u128], i: usize, by: u128, place: Place) -> Result<(), RangeAt>
     requires place { i < length gains.old }
     requires fit { GainsFit gains.old }
@@ -132,6 +136,7 @@ fn raise(gains: &mut [u128], i: usize, by: u128, place: Place) -> Result<(), Ran
 }
 
 // Adds the width of a row's interval to what was added up of it.
+#[inline(always)]
 fn widen(widths: &mut [i128], i: usize, row: Span)
     requires place { i < length widths.old }
     requires near { row.hi ≤ℤ (row.lo +ℤ pos greatest_width) }
@@ -178,6 +183,9 @@ fn settle_row(
     ensures gains_fit { GainsFit gains.new }
 {
     let row = weights[i];
+    if row.is_zero() {
+        return Ok(());
+    }
     within(Place::Weight(i as u8), magnitude_of(row))?;
     raise(gains, i, row.lo().unsigned_abs(), Place::Gain(i as u8))?;
     widen(widths, i, row);
@@ -239,6 +247,19 @@ fn add_inputs(inputs: &[Span], gains: &mut [u128]) -> Result<(), RangeAt>
     Ok(())
 }
 
+// Tests the interval that is carried to a row against the limit.
+#[inline(always)]
+fn test_rest(i: usize, carried: Span) -> Result<(), RangeAt>
+    requires { i < 64 }
+    ensures range { range_of result ≡ reached (Rest i) (magnitude carried) }
+    ensures small { OnOk result (magnitude carried ≤ greatest) }
+{
+    if carried.is_zero() {
+        return Ok(());
+    }
+    within(Place::Rest(i as u8), magnitude_of(carried))
+}
+
 // Answers the first interval that is carried and reaches the limit.
 fn test_rests(carried: &[Span]) -> Result<(), RangeAt>
     requires few { length carried.now ≤ 64 }
@@ -247,7 +268,7 @@ fn test_rests(carried: &[Span]) -> Result<(), RangeAt>
     ensures small { OnOk result ((i : ℕ) → magnitude (interval_in carried.now i) ≤ greatest) }
 {
     for i in 0..carried.len() {
-        within(Place::Rest(i as u8), magnitude_of(carried[i]))?;
+        test_rest(i, carried[i])?;
     }
     Ok(())
 }

@@ -124,8 +124,8 @@ impl<const N: usize> Sweep<N> {
     }
 
     /// One moment of the sweep; or at most `most`, where it leaves what is carried as it was, so that those after it
-    /// repeat it. Answers how many, of which only one is counted as made. Its error is that of `moment`. With those that
-    /// answered Ok since the last start, `most` is at most `GREATEST_LENGTH`.
+    /// repeat it. Answers how many, of which only one is counted as made. Its error is that of `moment`. With those
+    /// that answered Ok since the last start, `most` is at most `GREATEST_LENGTH`.
     pub fn moments(&mut self, net: &Net<N>, most: u16) -> Result<u16, RangeAt>
         requires some { 1 ≤ most }
         requires short { self.old.count + most ≤ GREATEST_LENGTH }

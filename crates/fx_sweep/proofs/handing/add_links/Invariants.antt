@@ -4,7 +4,7 @@ use Rattle.fx_cross.specs.Rests.{row_rest}
 use Rattle.fx_sweep.specs.Steps.{AreNarrow, product_apart, product_bound}
 use Rattle.fx_sweep.specs.Swept.{interval_in}
 use Rattle.fx_sweep.proofs.Along.{given, IsAhead}
-use Rattle.fx_sweep.proofs.handing.add_row.Given as goal
+use Rattle.fx_sweep.proofs.handing.add_links.Given as goal
 
 abbrev pub invariant-loop-link : goal.invariant-loop-link
 invariant-loop-link l = record {
