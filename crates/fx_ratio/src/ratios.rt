@@ -24,31 +24,19 @@ impl Ratios {
         })
     }
 
-    // The ratio of the coefficient at a place, made anew.
+    // The product with a coefficient that is new at its place, or has no room.
     #[cold]
     #[inline(never)]
-    fn anew(&mut self, place: usize, coef: Frac) -> Ratio
-        ensures { result ≡ coef }
+    fn multiple_anew(&mut self, place: usize, w: i128, coef: Frac) -> Span
+        requires { unsigned_abs w < 2 ^ FACTOR_BITS }
+        ensures ends { result ≡ multiple w coef }
+        ensures rounded { IsRoundedProduct w coef.num (den_value coef.den) result.lo result.hi }
     {
         let ratio = Ratio::new(coef);
         if place < self.at.len() {
             self.at[place] = ratio;
         }
-        ratio
-    }
-
-    // The ratio of the coefficient at a place.
-    #[inline(always)]
-    fn ratio(&mut self, place: usize, coef: Frac) -> Ratio
-        ensures { result ≡ coef }
-    {
-        if place < self.at.len() {
-            let kept = self.at[place];
-            if kept.fraction() == coef {
-                return kept;
-            }
-        }
-        self.anew(place, coef)
+        ratio.multiple(w)
     }
 
     /// The product of `w / 2^64` with the coefficient at a place, rounded outward: what `Iv::multiple` answers. Only
@@ -59,6 +47,12 @@ impl Ratios {
         ensures ends { result ≡ multiple w coef }
         ensures rounded { IsRoundedProduct w coef.num (den_value coef.den) result.lo result.hi }
     {
-        self.ratio(place, coef).multiple(w)
+        if place < self.at.len() {
+            let kept = self.at[place];
+            if kept.fraction() == coef {
+                return kept.multiple(w);
+            }
+        }
+        self.multiple_anew(place, w, coef)
     }
 }
