@@ -1,4 +1,4 @@
-ghost use Rattle.std.specs.Prelude.{◌≡◌, ◌^◌, ◌<◌, unsigned_abs};
+ghost use Rattle.std.specs.Prelude.{◌≡◌, ◌^◌, ◌<◌, unsigned_abs, IsTrue};
 ghost use Rattle.fx_nums.specs.Arithmetic.{multiple};
 ghost use Rattle.fx_nums.specs.Fraction.{den_value};
 ghost use Rattle.fx_nums.specs.Products.{IsRoundedProduct};
@@ -30,6 +30,14 @@ impl Model for Ratio {
     ghost inverse = { λ v. record { fraction = v; den = den_value v.den; ratio = ratio_of v } };
 
     ghost inverse_ok = { λ a h. rw (← h.ratio_is, ← h.den_is) (λ i. a) };
+}
+
+// Whether a number is below 2^64.
+#[inline(always)]
+pub(crate) fn is_small(w: i128) -> bool
+    ensures { IsTrue result → unsigned_abs w < 2 ^ 64 }
+{
+    w.unsigned_abs() < 1 << u64::BITS
 }
 
 // The product of a number that is wider than 64 bits.
@@ -64,16 +72,25 @@ impl Ratio {
         self.fraction
     }
 
+    // The product with a number below 2^64.
+    #[inline(always)]
+    pub(crate) fn small_multiple(self, w: i128) -> Span
+        requires { unsigned_abs w < 2 ^ 64 }
+        ensures ends { result ≡ multiple w self }
+        ensures rounded { IsRoundedProduct w self.num (den_value self.den) result.lo result.hi }
+    {
+        small_span(w, self.fraction.num(), self.den, self.ratio)
+    }
+
     /// The product of `w / 2^64` with the fraction, rounded outward: what `Iv::multiple` answers. A `w` of 2^64 or more
     /// in magnitude takes as long as there.
-    #[inline(always)]
     pub fn multiple(self, w: i128) -> Span
         requires { unsigned_abs w < 2 ^ FACTOR_BITS }
         ensures ends { result ≡ multiple w self }
         ensures rounded { IsRoundedProduct w self.num (den_value self.den) result.lo result.hi }
     {
-        if w.unsigned_abs() < 1 << u64::BITS {
-            small_span(w, self.fraction.num(), self.den, self.ratio)
+        if is_small(w) {
+            self.small_multiple(w)
         } else {
             wide_span(w, self.fraction)
         }

@@ -3,7 +3,7 @@ ghost use Rattle.fx_nums.specs.Arithmetic.{multiple};
 ghost use Rattle.fx_nums.specs.Fraction.{den_value};
 ghost use Rattle.fx_nums.specs.Products.{IsRoundedProduct};
 
-use crate::ratio::Ratio;
+use crate::ratio::{Ratio, is_small};
 use crate::span::Span;
 use fx_nums::{FACTOR_BITS, Frac};
 use std::alloc::{AllocError, Global};
@@ -24,19 +24,30 @@ impl Ratios {
         })
     }
 
-    // The product with a coefficient that is new at its place, or has no room.
-    #[cold]
+    // The ratio of the coefficient at a place, made anew where another one is kept there.
+    fn ratio(&mut self, place: usize, coef: Frac) -> Ratio
+        ensures { result ≡ coef }
+    {
+        if place >= self.at.len() {
+            return Ratio::new(coef);
+        }
+        let there = self.at[place];
+        if there.fraction() == coef {
+            return there;
+        }
+        let ratio = Ratio::new(coef);
+        self.at[place] = ratio;
+        ratio
+    }
+
+    // The product where its coefficient is not kept, or its number is wide.
     #[inline(never)]
-    fn multiple_anew(&mut self, place: usize, w: i128, coef: Frac) -> Span
+    fn any_multiple(&mut self, place: usize, w: i128, coef: Frac) -> Span
         requires { unsigned_abs w < 2 ^ FACTOR_BITS }
         ensures ends { result ≡ multiple w coef }
         ensures rounded { IsRoundedProduct w coef.num (den_value coef.den) result.lo result.hi }
     {
-        let ratio = Ratio::new(coef);
-        if place < self.at.len() {
-            self.at[place] = ratio;
-        }
-        ratio.multiple(w)
+        self.ratio(place, coef).multiple(w)
     }
 
     /// The product of `w / 2^64` with the coefficient at a place, rounded outward: what `Iv::multiple` answers. Only
@@ -47,12 +58,12 @@ impl Ratios {
         ensures ends { result ≡ multiple w coef }
         ensures rounded { IsRoundedProduct w coef.num (den_value coef.den) result.lo result.hi }
     {
-        if place < self.at.len() {
+        if place < self.at.len() && is_small(w) {
             let kept = self.at[place];
             if kept.fraction() == coef {
-                return kept.multiple(w);
+                return kept.small_multiple(w);
             }
         }
-        self.multiple_anew(place, w, coef)
+        self.any_multiple(place, w, coef)
     }
 }

@@ -8,6 +8,6 @@ returns-then-eq-clause-rounded c =
     let fits = c.ranges.w in
     let same : c.index-kept.result.now ≡ c.args.coef = search rules in
     let rounded : IsRoundedProduct c.args.w c.index-kept.result.now.num (den_value c.index-kept.result.now.den)
-    c.multiple.result.lo c.multiple.result.hi = simp to_z-of_z at c.multiple.ensures.rounded in
-    subst (λ (x : Fraction). IsRoundedProduct c.args.w x.num (den_value x.den) c.multiple.result.lo
-    c.multiple.result.hi) same rounded
+    c.small_multiple.result.lo c.small_multiple.result.hi = simp to_z-of_z at c.small_multiple.ensures.rounded in
+    subst (λ (x : Fraction). IsRoundedProduct c.args.w x.num (den_value x.den) c.small_multiple.result.lo
+    c.small_multiple.result.hi) same rounded
