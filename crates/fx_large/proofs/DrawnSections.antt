@@ -1,13 +1,13 @@
 -- Sections that are drawn fit a filter.
-use Rattle.std.proofs.Common.{◌≡◌, ℕ, zero, suc, ◌+◌, ◌*◌, ◌<◌, ◌≤◌, List, [], ◌∷◌, ◌++◌, length, length-append, Result, Ok, refl, arith}
+use Rattle.std.proofs.Common.{◌≡◌, ℕ, zero, suc, ◌+◌, ◌*◌, ◌<◌, ◌≤◌, List, [], ◌∷◌, ◌++◌, length, length-append, Ok}
+use Rattle.std.proofs.Common.{refl, arith}
 use Rattle.std.specs.Prelude.{All, ◌/◌}
 use Rattle.std.proofs.Math.Nat.{div-eq_of_eq-mul_left}
-use Rattle.std.proofs.lemmas.List.Elements.{All-nil, All-cons, All-append}
+use Rattle.std.proofs.lemmas.List.Elements.{All-nil, All-append}
 use Rattle.fx_nums.specs.Fraction.{Fraction, OverTen, is_one, one_fraction}
-use Rattle.fx_math.specs.Sums.{joined}
 use Rattle.fx_keys.specs.declared.key.Key.TheVariants as key
 use Rattle.fx_keys.specs.declared.fault.FilterFault.TheVariants.{NotMonic}
-use Rattle.fx_math.specs.Faults.{◌>>=◌, unless}
+use Rattle.fx_math.specs.Faults.{unless}
 use Rattle.fx_files.proofs.Steps.{bind_ok}
 use Rattle.fx_files.specs.Lists.{each_monic}
 use Rattle.fx_files.specs.Plan.{SectionsFit}

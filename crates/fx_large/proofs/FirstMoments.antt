@@ -1,10 +1,10 @@
 -- The first moments of a list of samples.
-use Rattle.std.proofs.Common.{◌≡◌, ◌∙◌, ℕ, zero, suc, ◌+◌, ◌-◌, ◌<◌, ◌≤◌, List, [], ◌∷◌, ◌++◌, length, refl, sym, ap, subst, arith, slice_index}
+use Rattle.std.proofs.Common.{◌≡◌, ◌∙◌, ℕ, zero, suc, ◌+◌, ◌-◌, ◌<◌, List, [], ◌∷◌, ◌++◌, length, refl, sym, ap}
+use Rattle.std.proofs.Common.{subst, arith, slice_index}
 use Rattle.std.proofs.Common.{length-append}
 use Rattle.std.proofs.lemmas.List.{append-nil}
 use Rattle.std.proofs.Common.{append_assoc}
 use Rattle.std.proofs.Math.IntN.{ℤ}
-use Rattle.fx_math.specs.Sums.{joined}
 use Rattle.fx_code.specs.Code.{Code}
 use Rattle.fx_code.specs.Inputs.{word_at}
 use Rattle.fx_code.specs.Laws.{EarlierInputs}

@@ -1,4 +1,5 @@
 pub mod DrawnSections
 pub mod FirstMoments
+pub mod JobFilter
 pub mod RunsSoFar
 pub mod Steps

@@ -1,5 +1,6 @@
 -- A run on samples, moment by moment.
-use Rattle.std.proofs.Common.{◌≡◌, ◌∙◌, ℕ, zero, suc, ◌+◌, ◌-◌, ◌*◌, ◌^◌, ◌<◌, ◌≤◌, List, [], ◌∷◌, ◌++◌, length, refl, sym, ap}
+use Rattle.std.proofs.Common.{◌≡◌, ◌∙◌, ℕ, zero, suc, ◌+◌, ◌-◌, ◌*◌, ◌^◌, ◌<◌, ◌≤◌, [], ◌∷◌, ◌++◌, length, refl, sym}
+use Rattle.std.proofs.Common.{ap}
 use Rattle.std.proofs.Common.{subst, arith, unsigned_abs, int_lt, if◌then◌else◌}
 use Rattle.std.proofs.Math.IntN.{ℤ, pos, ◌+ℤ◌}
 use Rattle.std.proofs.lemmas.Int.{ints}
@@ -8,10 +9,10 @@ use Rattle.fx_code.specs.Inputs.{word_at}
 use Rattle.fx_code.specs.Laws.{EarlierInputs}
 use Rattle.fx_code.specs.Run.{output_word}
 use Rattle.fx_machine.specs.Moments.{State, StandsAfter}
-use Rattle.fx_large.specs.Draws.{draw, next_state, state_after}
+use Rattle.fx_large.specs.Draws.{draw, state_after}
 use Rattle.fx_large.specs.Runs.{HasPorts, moments, run_summary, word_on}
 use Rattle.fx_large.specs.Sections.{sample_at, sample_of}
-use Rattle.fx_large.specs.Summaries.{greatest_to, least_to, summary_to}
+use Rattle.fx_large.specs.Summaries.{summary_to}
 use Rattle.fx_large.specs.declared.summary.Summary.{Summary}
 use Rattle.fx_large.proofs.FirstMoments.{word_so_far}
 use Rattle.fx_large.proofs.Steps.{one_more}
@@ -110,4 +111,5 @@ begins earlier p n s m state x w some ports next sample stands word low =
 
 pub ends : (p : Code) (n s : ℕ) (m : State) (state : ℕ) (summary : Summary) → RunsSoFar p n s n m state summary →
     summary ≡ run_summary p n s
+unfolding run_summary
 ends p n s m state summary r = r.summary_is

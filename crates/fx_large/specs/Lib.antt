@@ -1,4 +1,5 @@
 pub mod Draws
+pub mod Job
 pub mod Runs
 pub mod Sections
 pub mod Summaries

@@ -22,5 +22,5 @@ abbrev pub word_on : Code → ℕ → (ℕ → ℤ) → ℕ → ℤ
 word_on p n f k = output_word p (word_at (moments n f)) k 0
 
 -- the summary of its words, of n samples that follow a state
-abbrev pub run_summary : Code → ℕ → ℕ → Summary
+unfoldable pub run_summary : Code → ℕ → ℕ → Summary
 run_summary p n s = summary_to (n - 1) (word_on p n (sample_at s))

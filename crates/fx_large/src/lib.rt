@@ -2,6 +2,9 @@
 #![tactic(auto)]
 
 mod drawing;
+mod job;
+#[cfg(test)]
+mod job_tests;
 mod limits;
 mod running;
 mod sections;
@@ -10,6 +13,7 @@ mod summary;
 mod tests;
 
 pub use drawing::Draws;
+pub use job::{Job, JobFault, large, run_sections};
 pub use limits::SAMPLES;
 pub use running::run_samples;
 pub use sections::{drawn_sections, next_sample};

@@ -33,6 +33,7 @@ fn feed(machine: &mut Machine<'_>, sample: i64) -> i64
 
 /// The summary of the words that a program of one input of 16 bits and one output puts out, on so many samples that are
 /// drawn: at least 1, at most `SAMPLES`. No list of samples or words is kept. Its error is want of memory.
+#[tactic(auto, using(crate::proofs::RunsSoFar::ends))]
 pub fn run_samples(
     alloc: Global,
     program: &Program,

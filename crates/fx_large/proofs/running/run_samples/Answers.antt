@@ -1,9 +1,10 @@
-use Rattle.std.proofs.Common.{rules, ◌≡◌, ◌≤◌, ◌+◌, ◌++◌, ◌∷◌, [], ◌^◌, length, sym, subst, arith, unsigned_abs, FitsSigned, w64, to_z, of_z, ◌∙◌}
+use Rattle.std.proofs.Common.{rules, ◌≡◌, ◌≤◌, ◌+◌, ◌++◌, ◌∷◌, [], ◌^◌, length, sym, subst, arith, unsigned_abs}
+use Rattle.std.proofs.Common.{FitsSigned, w64, to_z, of_z, ◌∙◌}
 use Rattle.std.proofs.lemmas.Int.{ints, to_z-of_z}
 use Rattle.fx_code.specs.Inputs.{word_at}
 use Rattle.fx_code.specs.Run.{output_word}
 use Rattle.fx_machine.specs.Moments.{StandsAfter}
-use Rattle.fx_large.specs.Draws.{draw, state_after}
+use Rattle.fx_large.specs.Draws.{draw}
 use Rattle.fx_large.specs.Runs.{HasPorts, moments}
 use Rattle.fx_large.specs.Sections.{sample_at, sample_of}
 use Rattle.fx_large.proofs.RunsSoFar.{RunsSoFar, begins, goes_on, of_word, same_summary}
@@ -60,7 +61,7 @@ loop-preserved c =
     record {
       so_far = subst (λ z. RunsSoFar p n s (k + 1) m c.next_sample-in-loop.new.draws.state z) (sym same)
           (goes_on c.words_read_no_later_inputs.ensures p n s k c.loop.machine m c.loop.draws.state
-          c.next_sample-in-loop.new.draws.state c.loop.summary y w r c.loop.invariant.some (omega (arith, c.loop-test.true))
-          ports c.next_sample-in-loop.ensures.state sample stands word low);
+          c.next_sample-in-loop.new.draws.state c.loop.summary y w r c.loop.invariant.some
+          (omega (arith, c.loop-test.true)) ports c.next_sample-in-loop.ensures.state sample stands word low);
       some = omega (arith, c.loop.invariant.some);
     }

@@ -1,7 +1,7 @@
 use Rattle.std.proofs.Common.{rules, ◌≡◌, ◌∙◌, ◌++◌, ◌*◌, ◌+◌, suc, refl, ap, arith}
 use Rattle.fx_large.specs.Draws.{state_after}
 use Rattle.fx_large.specs.Sections.{section_from}
-use Rattle.fx_large.proofs.DrawnSections.{AreSections, more_sections, no_sections, sections_fit}
+use Rattle.fx_large.proofs.DrawnSections.{more_sections, no_sections}
 use Rattle.fx_large.proofs.Steps.{five_more}
 use Rattle.fx_large.proofs.sections.drawn_sections.Goals as goal
 
