@@ -1,5 +1,5 @@
 -- The lines of what is found have no control byte before their line feeds.
-use Rattle.std.proofs.Common.{ℕ, ℤ, List, [], ◌∷◌, ◌++◌, codes, decimal, refl, subst, sym}
+use Rattle.std.proofs.Common.{ℕ, zero, suc, ℤ, List, [], ◌∷◌, ◌++◌, codes, decimal, length, refl, subst, sym}
 use Rattle.std.proofs.Common.{append_assoc}
 use Rattle.std.specs.Fmt.{signed_decimal}
 use Rattle.std.specs.List.{flat_map}
@@ -24,13 +24,17 @@ use Rattle.fx_totals.specs.declared.target_range.TargetRange.{TargetRange}
 use Rattle.fx_lines.specs.Laws.{IsLine}
 use Rattle.fx_lines.specs.Verdict.{error_lines, place_text, up_part}
 use Rattle.fx_lines.specs.declared.decimals.TheConstants.{PLACES}
-use Rattle.fx_lines.proofs.AreLines.{alone, entry_lines}
+use Rattle.fx_large.specs.declared.limits.TheConstants.{SAMPLES}
+use Rattle.fx_large.specs.declared.summary.Summary.{Summary}
+use Rattle.fx_lines.proofs.AreLines.{alone, entry_lines, lines_then}
 use Rattle.fx_lines.proofs.PrintedParts.{Printed, both_printed, decimal_printed, down_printed, line_of, more}
 use Rattle.fx_lines.proofs.PrintedParts.{number_line, numbered, numbers_line, part_printed, sides_are_line}
 use Rattle.fx_lines.proofs.PrintedParts.{signed_printed}
 use Rattle.fx_lines.proofs.VerdictLines.{errors_are_lines, place_printed}
-use Rattle.fx_findings.specs.Designs.{choice_text, fail_line, failed_line}
-use Rattle.fx_findings.specs.Laws.{DesignLines, NoDesignLines, NoLengthLines, PeakLines, StructureFaultLine}
+use Rattle.fx_findings.specs.Designs.{choice_text, design_lines, fail_line, failed_line}
+use Rattle.fx_findings.specs.Large.{summary_line, words_part}
+use Rattle.fx_findings.specs.Laws.{DesignLines, LargeLines, NoDesignLines, NoLengthLines, PeakLines}
+use Rattle.fx_findings.specs.Laws.{StructureFaultLine}
 use Rattle.fx_findings.specs.Peaks.{bounds_line, gain_line, length_line, range_line, words_text, worst_line}
 
 -- ---- pieces
@@ -127,6 +131,43 @@ no_design fails = (
     ),
   ),
 )
+
+-- ---- jobs
+
+words_are_printed : (s : Summary) → Printed (words_part s)
+words_are_printed s =
+    let least = codes " least " ++ signed_decimal s.least in
+    let greatest = least ++ codes " greatest " ++ signed_decimal s.greatest in
+    let a = both_printed (codes " least ") (signed_decimal s.least) refl (signed_printed s.least) in
+    let b = both_printed least (codes " greatest ") a refl in
+    let c = both_printed (least ++ codes " greatest ") (signed_decimal s.greatest) b (signed_printed s.greatest) in
+    let d = both_printed greatest (codes " sum ") c refl in
+    both_printed (greatest ++ codes " sum ") (signed_decimal s.sum) d (signed_printed s.sum)
+
+summary_is_line : (n : ℕ) (s : Summary) → IsLine (summary_line n s)
+summary_is_line n s =
+    let counted = codes "samples " ++ decimal n in
+    let words = words_part s in
+    line_of (counted ++ words) (both_printed counted words (numbered (codes "samples ") n refl) (words_are_printed s))
+
+pub job : LargeLines
+job number guard fraction moments errors summary =
+    let first = codes "large " ++ decimal number in
+    let made = design_lines guard fraction moments errors in (
+      first ++ codes "\n",
+      (
+        made ++ summary_line SAMPLES summary,
+        (
+          append_assoc (first ++ codes "\n") made (summary_line SAMPLES summary),
+          (
+            line_of first (numbered (codes "large ") number refl),
+            lines_then (suc (length errors)) (suc zero) made (summary_line SAMPLES summary)
+                (design guard fraction moments errors)
+                (alone (summary_line SAMPLES summary) (summary_is_line SAMPLES summary)),
+          ),
+        ),
+      ),
+    )
 
 -- ---- structures
 

@@ -33,6 +33,23 @@ fn put_choice(
     put_field(text, " ", length)
 }
 
+// The lines of a design behind a text.
+#[tactic(auto, using(crate::proofs::Joined::regrouped))]
+pub(crate) fn put_design(
+    text: &mut Vec<u8>,
+    guard: u8,
+    fraction: u8,
+    length: u16,
+    certificate: &Cert,
+) -> Result<(), AllocError>
+    ensures { OnOk result (text.new.items
+        ≡ text.old.items ++ design_lines guard fraction length certificate.now.errors) }
+{
+    put_choice(text, "design ", guard, fraction, length)?;
+    put_word(text, "\n")?;
+    put_errors(text, certificate)
+}
+
 /// The lines of a design: its guard bits, fraction bits and moments of a block, and its certificate's error of each
 /// output, in output steps with nine places, rounded up in the last.
 pub fn design_lines(
@@ -45,9 +62,7 @@ pub fn design_lines(
     ensures { IfOk result (λ t. t.items ≡ design_lines guard fraction length certificate.now.errors) }
 {
     let mut text = Vec::new(alloc);
-    put_choice(&mut text, "design ", guard, fraction, length)?;
-    put_word(&mut text, "\n")?;
-    put_errors(&mut text, certificate)?;
+    put_design(&mut text, guard, fraction, length, certificate)?;
     Ok(text)
 }
 

@@ -1,8 +1,11 @@
-use crate::{design_lines, gain_lines, no_design_lines, no_length_lines, structure_fault_line};
+use crate::{
+    design_lines, gain_lines, large_lines, no_design_lines, no_length_lines, structure_fault_line,
+};
 use fx_block::{Least, LengthWhy};
 use fx_cert::Cert;
 use fx_files::{Form, Structure, read_filter};
 use fx_gain::{LengthFail, peak};
+use fx_large::large;
 use fx_make::{Fail, Failed, StructureFault};
 use fx_nums::Iv;
 use fx_sweep::{Place, RangeAt};
@@ -140,5 +143,17 @@ fn structure_faults_have_their_lines(rt: HostRuntime) -> Result<(), TestFail> {
     for (fault, line) in &structure_faults() {
         assert_eq!(rt; structure_fault_line(rt.alloc(), fault)?.as_slice(), *line);
     }
+    Ok(())
+}
+
+#[test]
+fn a_job_has_its_lines(rt: HostRuntime) -> Result<(), TestFail> {
+    let Ok(job) = large(rt.alloc(), 1) else {
+        return Err(TestFail::from("a design"));
+    };
+    assert_eq!(rt;
+        large_lines(rt.alloc(), 1, &job)?.as_slice(),
+        b"large 1\ndesign 8 24 256\nerror 0 0.511027118\nsamples 100000 least 0 greatest 0 sum 0\n".as_slice()
+    );
     Ok(())
 }
