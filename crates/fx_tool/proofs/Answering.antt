@@ -1,7 +1,6 @@
 -- What the answers of the plans have in common, and what a run gives of them that fails before its text.
-use Rattle.std.proofs.Common.{◌≡◌, ◌⊎◌, inl, inr, ℕ, ◌≤◌, ℤ, nat_le, Bool, true, false, cond, IsTrue, arith, List, []}
+use Rattle.std.proofs.Common.{◌≡◌, ◌⊎◌, inl, inr, ℕ, ◌≤◌, ℤ, true, false, IsTrue, arith, List, []}
 use Rattle.std.proofs.Common.{◌∷◌, length, take, Option, Some, None, Result, Ok, Err, refl, sym, ap, subst, ◌∙◌}
-use Rattle.std.proofs.lemmas.List.{append-nil}
 use Rattle.std.specs.FinMap.{get}
 use Rattle.fx_io.specs.Outside.{Outside, Output}
 use Rattle.fx_io.specs.Shelf.{Files}
@@ -25,32 +24,35 @@ use Rattle.fx_tool.specs.Check.{certified, code_plan, filter_plan}
 use Rattle.fx_words.specs.Command.{Command}
 use Rattle.fx_words.specs.Words.{command_of}
 use Rattle.fx_tool.specs.Gain.{by_serving, gained, gains, serving}
+use Rattle.fx_tool.specs.Large.{large_answer, number_filter, operand_number, run_for}
 use Rattle.fx_tool.specs.Judgement.{by_failure, judged, reported, told}
-use Rattle.fx_words.specs.Operand.{limit_of}
 use Rattle.fx_tool.specs.Operand.{too_long}
-use Rattle.fx_tool.specs.Plan.{Plan, Ends, Reads, by_content, answer_by, OfAnswer, WhereTold}
+use Rattle.fx_tool.specs.Plan.{Plan, Ends, Reads, answer_by, OfAnswer, WhereTold}
+use Rattle.fx_make.specs.Candidates.{Candidate, Passing}
 use Rattle.fx_make.specs.Made.{found}
 use Rattle.fx_make.specs.Search.{Progress}
 use Rattle.fx_make.specs.Search.Progress.{AllFailed, Found}
 use Rattle.fx_make.specs.declared.refusal.StructureFault.{StructureFault}
-use Rattle.fx_io.specs.Causes.{Rose}
-use Rattle.fx_tool.specs.Make.{made_answer, made_of_bytes, of_found, of_search}
+use Rattle.fx_io.specs.Causes.{HasCause, Rose}
+use Rattle.fx_tool.specs.Make.{made_answer, made_of_bytes, of_found, of_search, placed_for}
 use Rattle.fx_tool.specs.Placing.{ArePlaced, DeliversAll, PlacesNothing, all_placed, placings, with_placed}
-use Rattle.fx_tool.specs.Running.{plan_of, operands_to, names_to, targets_to, plan_to, answer_of, FollowsWords}
-use Rattle.fx_tool.specs.Running.{Leaves, LeavesFiles, OfWords, PlacesAnswer, placings_of}
+use Rattle.fx_tool.specs.Running.{plan_of, operands_to, names_to, targets_to, plan_to, answer_of, placings_of}
+use Rattle.fx_tool.specs.Running.{Answers, FollowsAsked, FollowsWords, Leaves, LeavesFiles, OfWords, PlacesAnswer}
+use Rattle.fx_tool.proofs.Counted.{none_where_no_memory, none_where_ok}
+use Rattle.fx_tool.proofs.Followed.{content_holds, long_status, told_answer}
 use Rattle.fx_tool.proofs.Placed.{nothing_placed, placings_none}
 use Rattle.fx_tool.specs.Show.{shown}
 use Rattle.fx_tool.specs.Simulate.{outputs, samples_plan}
-use Rattle.fx_tool.specs.Status.{is_spoken}
+use Rattle.fx_tool.specs.Status.{is_spoken, IsBuiltStatus}
 use Rattle.fx_tool.specs.Writing.{GrowsBy}
+use Rattle.fx_tool.proofs.WrittenSoFar.{grows_nothing}
 use Rattle.fx_words.specs.declared.command.Verb.{Verb}
-use Rattle.fx_words.specs.declared.command.Verb.TheVariants.{Check, Gain, Make, Report, Show, Simulate}
+use Rattle.fx_words.specs.declared.command.Verb.TheVariants.{Check, Gain, Large, Make, Report, Show, Simulate}
 use Rattle.fx_tool.specs.declared.judgement.Detail.{Detail}
 use Rattle.fx_tool.specs.declared.judgement.Detail.TheVariants.{Brief, Full}
 use Rattle.fx_words.specs.declared.operand.Operand.{Operand}
-use Rattle.fx_words.specs.declared.operand.Operand.TheVariants as operand
 use Rattle.fx_tool.specs.declared.status.Status.{Status}
-use Rattle.fx_tool.specs.declared.status.Status.TheVariants.{ReadFault, NoMemory}
+use Rattle.fx_tool.specs.declared.status.Status.TheVariants.{ReadFault, WriteFault, NoMemory}
 
 -- ---- each answer of a plan has a text of its own
 
@@ -102,17 +104,19 @@ filter_spoken : (detail : Detail) (r : Result Filter FilterFault) → AllSpoken 
 filter_spoken detail (Ok f) = λ code. code_spoken detail f (code_in code)
 filter_spoken detail (Err fault) = refl
 
-search_spoken : (f : Filter) (p : Progress) → IsSpoken (of_search f p)
-search_spoken f (AllFailed fails) = refl
-search_spoken f (Found c p) = refl
+search_spoken : (tell : Candidate → Passing → Answer) → ((c : Candidate) (p : Passing) → IsSpoken (tell c p)) →
+    (p : Progress) → IsSpoken (of_search tell p)
+search_spoken tell spoken (AllFailed fails) = refl
+search_spoken tell spoken (Found c p) = spoken c p
 
-found_spoken : (f : Filter) (r : Result Progress StructureFault) → IsSpoken (of_found f r)
-found_spoken f (Ok p) = search_spoken f p
-found_spoken f (Err why) = refl
+found_spoken : (tell : Candidate → Passing → Answer) → ((c : Candidate) (p : Passing) → IsSpoken (tell c p)) →
+    (r : Result Progress StructureFault) → IsSpoken (of_found tell r)
+found_spoken tell spoken (Ok p) = search_spoken tell spoken p
+found_spoken tell spoken (Err why) = refl
 
 answer_spoken : (f : Filter) → IsSpoken (made_answer f)
 unfolding made_answer
-answer_spoken f = found_spoken f (found f)
+answer_spoken f = found_spoken (λ c p. placed_for f c p) (λ c p. refl) (found f)
 
 made_spoken : (r : Result Filter FilterFault) → IsSpoken (made_of_bytes r)
 made_spoken (Ok f) = answer_spoken f
@@ -130,9 +134,14 @@ gained_spoken : (r : Result Filter FilterFault) → IsSpoken (gained r)
 gained_spoken (Ok f) = gains_spoken f
 gained_spoken (Err fault) = refl
 
+large_spoken : (number : ℕ) → IsSpoken (large_answer number)
+unfolding large_answer
+large_spoken number = found_spoken (λ c p. run_for number c p) (λ c p. refl) (found (number_filter number))
+
 verb_spoken : (v : Verb) (names : List (List ℕ)) → AllSpoken (plan_of v names)
 verb_spoken Check names = λ bytes. filter_spoken Brief (filter_of_bytes bytes)
 verb_spoken Gain names = λ bytes. gained_spoken (filter_of_bytes bytes)
+verb_spoken Large names = large_spoken (operand_number names)
 verb_spoken Make names = λ bytes. made_spoken (filter_of_bytes bytes)
 verb_spoken Report names = λ bytes. filter_spoken Full (filter_of_bytes bytes)
 verb_spoken Show names = λ bytes. shown_spoken (filter_of_bytes bytes)
@@ -148,21 +157,7 @@ abbrev IsUsual : Answer → Type 0
 IsUsual a = IsSpoken a ⊎ (a ≡ absent)
 
 long_spoken : (o : Operand) → IsSpoken (too_long o)
-long_spoken operand.Filter = refl
-long_spoken operand.Code = refl
-long_spoken operand.Certificate = refl
-long_spoken operand.Samples = refl
-
-short_usual : (b : Bool) (next long : Answer) → IsUsual next → IsUsual long → IsUsual (cond b next long)
-short_usual true next long h l = h
-short_usual false next long h l = l
-
-content_usual : (o : Operand) (c : Option (List ℕ)) (next : List ℕ → Answer) →
-    ((content : List ℕ) → IsUsual (next content)) → IsUsual (by_content o absent (too_long o) next c)
-content_usual o None next h = inr refl
-content_usual o (Some content) next h =
-    short_usual (nat_le (length content) (limit_of o)) (next content) (too_long o) (h content)
-    (inl (long_spoken o))
+long_spoken o = subst (λ (s : Status). IsTrue (is_spoken s)) (sym (long_status o)) refl
 
 plan_usual : (os : List Operand) (names : List (List ℕ)) (plan : Plan) (files : Files) → AllSpoken plan →
     IsUsual (answer_by os names plan files)
@@ -170,8 +165,8 @@ plan_usual os names (Ends a) files h = inl h
 plan_usual [] names (Reads next) files h = inr refl
 plan_usual (o ∷ os) [] (Reads next) files h = inr refl
 plan_usual (o ∷ os) (name ∷ names) (Reads next) files h =
-    content_usual o (get files name) (λ content. answer_by os names (next content) files) (λ content.
-    plan_usual os names (next content) files (h content))
+    content_holds (λ a. IsUsual a) o (λ content. answer_by os names (next content) files) (get files name) (inr refl)
+    (inl (long_spoken o)) (λ content. plan_usual os names (next content) files (h content))
 
 of_plan : (os : List Operand) (names : List (List ℕ)) (plan : Plan) (told : Option Files) (P : Answer →
     Type 0) → AllSpoken plan → ((a : Answer) → IsUsual a → P a) → OfAnswer os names plan told P
@@ -180,10 +175,6 @@ of_plan os names (Reads next) None P h p = tt
 of_plan os names (Reads next) (Some files) P h p = p _ (plan_usual os names (Reads next) files h)
 
 -- ---- faults before the text
-
-grows_nothing : (before : Option (List ℕ)) → GrowsBy [] before before
-grows_nothing None = refl
-grows_nothing (Some t) = ap Some (sym (append-nil t))
 
 grows_text : (text : List ℕ) (before : Option (List ℕ)) → text ≡ [] → GrowsBy text before before
 grows_text text before e = let P : List ℕ → Type 0 = λ t. GrowsBy t before before in
@@ -203,33 +194,30 @@ memory_is_no_answer : (a : Answer) → IsUsual a → NoMemory ≡ a.status → �
 memory_is_no_answer a (inl s) h = silent a.status (inr (sym h)) s
 memory_is_no_answer a (inr e) h = let e : NoMemory ≡ ReadFault = h ∙ ap (λ (a : Answer). a.status) e in cc
 
-delivers_read_fault : (a : Answer) (before : Option (List ℕ)) → IsUsual a → Delivers a ReadFault before before
-delivers_read_fault a before u = record {
+-- the status of a run whose read failed so
+abbrev pub read_status : IoFault → Status
+read_status io.Failed = ReadFault
+read_status io.NoMemory = NoMemory
+
+delivers_fault : (fault : IoFault) (a : Answer) (before : Option (List ℕ)) → IsUsual a →
+    Delivers a (read_status fault) before before
+delivers_fault io.Failed a before u = record {
   which = inr (inl refl);
   whole = λ h. grows_text a.text before (fault_says_nothing a u h);
   prefix = (0, grows_nothing before);
 }
-
-delivers_no_memory : (a : Answer) (before : Option (List ℕ)) → IsUsual a → Delivers a NoMemory before before
-delivers_no_memory a before u = record {
+delivers_fault io.NoMemory a before u = record {
   which = inr (inr (inr refl));
   whole = λ h. absurd (memory_is_no_answer a u h);
   prefix = (0, grows_nothing before);
 }
 
-gives_read_fault : (words : List (List ℕ)) (told : Option Files) (before : Option (List ℕ)) →
-    OfWords words told (λ a. Delivers a ReadFault before before)
-gives_read_fault words told before =
+gives_fault : (fault : IoFault) (words : List (List ℕ)) (told : Option Files) (before : Option (List ℕ)) →
+    OfWords words told (λ a. Delivers a (read_status fault) before before)
+gives_fault fault words told before =
     let c = command_of words in
-    of_plan (operands_to c) (names_to c) (plan_to c) told (λ a.
-    Delivers a ReadFault before before) (words_spoken c) (λ a u. delivers_read_fault a before u)
-
-gives_no_memory : (words : List (List ℕ)) (told : Option Files) (before : Option (List ℕ)) →
-    OfWords words told (λ a. Delivers a NoMemory before before)
-gives_no_memory words told before =
-    let c = command_of words in
-    of_plan (operands_to c) (names_to c) (plan_to c) told (λ a.
-    Delivers a NoMemory before before) (words_spoken c) (λ a u. delivers_no_memory a before u)
+    of_plan (operands_to c) (names_to c) (plan_to c) told (λ a. Delivers a (read_status fault) before before)
+    (words_spoken c) (λ a u. delivers_fault fault a before u)
 
 -- ---- the files of such a run
 
@@ -257,19 +245,16 @@ usual_answer : (words : List (List ℕ)) (files : Files) → IsUsual (answer_of 
 usual_answer words files =
     let c = command_of words in plan_usual (operands_to c) (names_to c) (plan_to c) files (words_spoken c)
 
-pub places_at_read_fault : (words : List (List ℕ)) (before after : Option Files) → after ≡ before →
-    PlacesAnswer words before after ReadFault
-places_at_read_fault words None after e = tt
-places_at_read_fault words (Some files) after e = λ h.
+places_at_fault : (fault : IoFault) (words : List (List ℕ)) (before after : Option Files) → after ≡ before →
+    PlacesAnswer words before after (read_status fault)
+places_at_fault io.Failed words None after e = tt
+places_at_fault io.NoMemory words None after e = tt
+places_at_fault io.Failed words (Some files) after e = λ h.
     e ∙ ap (λ ps. Some (with_placed ps files))
     (sym (ap (placings (targets_to (command_of words)))
     (fault_places_nothing (answer_of words files) (usual_answer words files) h)
     ∙ placings_none (targets_to (command_of words))))
-
-pub places_at_no_memory : (words : List (List ℕ)) (before after : Option Files) →
-    PlacesAnswer words before after NoMemory
-places_at_no_memory words None after = tt
-places_at_no_memory words (Some files) after = λ h.
+places_at_fault io.NoMemory words (Some files) after e = λ h.
     absurd (memory_is_no_answer (answer_of words files) (usual_answer words files) h)
 
 -- a run that ends before it reads follows any plan
@@ -288,18 +273,36 @@ follows_nothing words shelf = record {
 
 -- ---- what such a run leaves
 
-pub leaves_read_fault : (words : List (List ℕ)) (shelf shelf' : Outside) (out : Output)
-    (result : Result Answer IoFault) → result ≡ Err io.Failed → FollowsWords words shelf shelf' result
-    → Leaves words shelf shelf' out out ReadFault
-leaves_read_fault words shelf shelf' out result e f = record {
-  answer = gives_read_fault words shelf.files out.told;
+built : (fault : IoFault) → IsBuiltStatus (read_status fault)
+built io.Failed = refl
+built io.NoMemory = refl
+
+unwritten : (fault : IoFault) → read_status fault ≡ WriteFault → ⊥
+unwritten io.Failed e = cc
+unwritten io.NoMemory e = cc
+
+counted : (fault : IoFault) (before now : ℕ) (result : Result Answer IoFault) → result ≡ Err fault →
+    HasCause before now result → read_status fault ≡ ReadFault → Rose before now
+counted io.Failed before now result e h s = h.failed e
+counted io.NoMemory before now result e h s = cc
+
+counted_so : (fault : IoFault) (before now : ℕ) (result : Result Answer IoFault) → result ≡ Err fault →
+    HasCause before now result → (now ≡ before) ⊎ (read_status fault ≡ ReadFault)
+counted_so io.Failed before now result e h = inr refl
+counted_so io.NoMemory before now result e h = inl (none_where_no_memory before now result e h)
+
+leaves_fault : (words : List (List ℕ)) (shelf shelf' : Outside) (out : Output) (result : Result Answer IoFault)
+    (fault : IoFault) → result ≡ Err fault → FollowsWords words shelf shelf' result →
+    Leaves words shelf shelf' out out (read_status fault)
+leaves_fault words shelf shelf' out result fault e f = record {
+  answer = gives_fault fault words shelf.files out.told;
   quiet = λ h. refl;
   grows = ([], grows_nothing out.told);
   text_last = inr refl;
-  only = refl;
-  read_fault = λ h. f.shelf.cause.failed e;
-  write_fault = λ h. cc;
-  kept_reads = inr refl;
+  only = built fault;
+  read_fault = counted fault shelf.read_faults shelf'.read_faults result e f.shelf.cause;
+  write_fault = λ h. absurd (unwritten fault h);
+  kept_reads = counted_so fault shelf.read_faults shelf'.read_faults result e f.shelf.cause;
   kept_places = inl f.shelf.place_faults;
   kept_writes = inl refl;
   later_reads = f.shelf.cause.later;
@@ -313,35 +316,18 @@ leaves_read_fault words shelf shelf' out result e f = record {
   names = f.shelf.names;
 }
 
-no_fault_counted : (before now : ℕ) (result : Result Answer IoFault) → result ≡ Err io.NoMemory →
-    (now ≡ before) ⊎ (result ≡ Err io.Failed) → now ≡ before
-no_fault_counted before now result e (inl same) = same
-no_fault_counted before now result e (inr failed) = let no : Err io.NoMemory ≡ Err io.Failed = sym e ∙ failed in cc
-
-pub leaves_no_memory : (words : List (List ℕ)) (shelf shelf' : Outside) (out : Output)
-    (result : Result Answer IoFault) → result ≡ Err io.NoMemory → FollowsWords words shelf shelf' result
-    → Leaves words shelf shelf' out out NoMemory
-leaves_no_memory words shelf shelf' out result e f = record {
-  answer = gives_no_memory words shelf.files out.told;
-  quiet = λ h. cc;
-  grows = ([], grows_nothing out.told);
-  text_last = inr refl;
-  only = refl;
-  read_fault = λ h. cc;
-  write_fault = λ h. cc;
-  kept_reads = inl (no_fault_counted shelf.read_faults shelf'.read_faults result e f.shelf.cause.kept);
-  kept_places = inl f.shelf.place_faults;
-  kept_writes = inl refl;
-  later_reads = f.shelf.cause.later;
-  later_places = omega (arith, f.shelf.place_faults);
-  later_writes = omega arith;
-  unread = λ h. f.shelf.files;
-  files = leaves_all words (targets_to (command_of words)) shelf shelf'
-      (record { files = f.shelf.files; place_faults = f.shelf.place_faults });
-  later = f.shelf.later;
-  calls = omega (arith, f.shelf.few);
-  names = f.shelf.names;
-}
+-- of the command that is asked, where that is the one of the words
+pub answers_fault : (words : List (List ℕ)) (asked : Option Command) (shelf shelf' : Outside) (out : Output)
+    (result : Result Answer IoFault) (fault : IoFault) → asked ≡ command_of words →
+    FollowsAsked asked shelf shelf' result → result ≡ Err fault →
+    Answers words shelf shelf' out out (read_status fault)
+answers_fault words asked shelf shelf' out result fault is follows e =
+    let f : FollowsWords words shelf shelf' result =
+    subst (λ (c : Option Command). FollowsAsked c shelf shelf' result) is follows in
+    record {
+      placed = places_at_fault fault words shelf.files shelf'.files f.shelf.files;
+      leaves = leaves_fault words shelf shelf' out result fault e f;
+    }
 
 -- ---- what a run leaves that comes to its text
 
@@ -350,11 +336,6 @@ of_answer : (os : List Operand) (names : List (List ℕ)) (plan : Plan) (told : 
 of_answer os names (Ends a) told P Q f h = f a h
 of_answer os names (Reads next) None P Q f h = tt
 of_answer os names (Reads next) (Some files) P Q f h = f _ h
-
-told_answer : (os : List Operand) (names : List (List ℕ)) (plan : Plan) (files : Files) (P : Answer → Type 0) →
-    OfAnswer os names plan (Some files) P → P (answer_by os names plan files)
-told_answer os names (Ends a) files P h = h
-told_answer os names (Reads next) files P h = h
 
 -- the answer of an ending is that of the words
 follows_answer : (words : List (List ℕ)) (before now : Outside) (answer : Answer) →
@@ -398,7 +379,7 @@ places_all_of words before now after answer same is placed =
     placed ∙ ap (all_placed (placings_of words answer)) (same ∙ e)
     ∙ ap (λ a. Some (with_placed (placings_of words a) files)) (sym (is_answer words before.files files answer e is)))
 
-pub leaves_delivered : (words : List (List ℕ)) (before now after : Outside) (out out' : Output) (answer : Answer)
+leaves_delivered : (words : List (List ℕ)) (before now after : Outside) (out out' : Output) (answer : Answer)
     (status : Status) → FollowsWords words before now (Ok answer) →
     DeliversAll answer (placings_of words answer) now after out out' status →
     Leaves words before after out out' status
@@ -423,7 +404,8 @@ leaves_delivered words before now after out out' answer status f d =
       read_fault = λ e. absurd (d.spoken e);
       write_fault = λ e. subst (λ n. Rose n after.place_faults ⊎ Rose out.faults out'.faults) f.shelf.place_faults
           (d.write_fault e);
-      kept_reads = inl (d.read_faults ∙ same_reads f.shelf.cause.kept);
+      kept_reads = inl (d.read_faults
+          ∙ none_where_ok before.read_faults now.read_faults (Ok answer) answer refl f.shelf.cause);
       kept_places = elim d.kept_places [ inl e ↦ inl (e ∙ f.shelf.place_faults) | inr e ↦ inr e ];
       kept_writes = d.kept_writes;
       later_reads = omega (arith, d.read_faults, f.shelf.cause.later);
@@ -436,12 +418,8 @@ leaves_delivered words before now after out out' answer status f d =
       calls = omega (arith, d.few, f.shelf.few, few);
       names = λ q h. d.names q (f.shelf.names q h);
     }
-  where
-    same_reads : {m n : ℕ} → (n ≡ m) ⊎ (Ok answer ≡ Err io.Failed) → n ≡ m
-    same_reads (inl e) = e
-    same_reads (inr e) = cc
 
-pub places_delivered : (words : List (List ℕ)) (before now after : Outside) (out out' : Output) (answer : Answer)
+places_delivered : (words : List (List ℕ)) (before now after : Outside) (out out' : Output) (answer : Answer)
     (status : Status) → FollowsWords words before now (Ok answer) →
     DeliversAll answer (placings_of words answer) now after out out' status →
     PlacesAnswer words before.files after.files status
@@ -450,3 +428,20 @@ places_delivered words before now after out out' answer status f d =
     (let is = is_answer words before.files files answer e (follows_answer words before now answer f) in
     d.whole (h ∙ ap (λ (a : Answer). a.status) is) ∙ ap (all_placed (placings_of words answer)) (f.shelf.files ∙ e)
     ∙ ap (λ a. Some (with_placed (placings_of words a) files)) (sym is)))
+
+pub answers_delivered : (words names : List (List ℕ)) (asked : Option Command) (before now after : Outside)
+    (out out' : Output) (result : Result Answer IoFault) (answer : Answer) (status : Status) →
+    asked ≡ command_of words → FollowsAsked asked before now result → result ≡ Ok answer →
+    names ≡ targets_to asked → DeliversAll answer (placings names answer.placed) now after out out' status →
+    Answers words before after out out' status
+answers_delivered words names asked before now after out out' result answer status is follows e targets delivered =
+    let f : FollowsWords words before now (Ok answer) =
+    subst (λ (r : Result Answer IoFault). FollowsWords words before now r) e
+    (subst (λ (c : Option Command). FollowsAsked c before now result) is follows) in
+    let d : DeliversAll answer (placings_of words answer) now after out out' status =
+    subst (λ (ns : List (List ℕ)). DeliversAll answer (placings ns answer.placed) now after out out' status)
+    (targets ∙ ap targets_to is) delivered in
+    record {
+      placed = places_delivered words before now after out out' answer status f d;
+      leaves = leaves_delivered words before now after out out' answer status f d;
+    }

@@ -1,5 +1,5 @@
 -- When `check` ends with which status.
-use Rattle.std.proofs.Common.{◌≡◌, ◌∙◌, ℕ, ◌≤◌, Bool, true, false, cond, nat_le, List, [], ◌∷◌, length, Option, Some}
+use Rattle.std.proofs.Common.{◌≡◌, ◌∙◌, ℕ, ◌≤◌, cond, List, [], ◌∷◌, length, Option, Some}
 use Rattle.std.proofs.Common.{None, Result, Ok, Err, ap, refl, sym}
 use Rattle.std.proofs.lemmas.Bool.{le-leb}
 use Rattle.std.specs.FinMap.{get}
@@ -32,6 +32,7 @@ use Rattle.fx_words.specs.Command.{Command, operands_of}
 use Rattle.fx_tool.specs.Judgement.{by_failure, judged}
 use Rattle.fx_words.specs.Operand.{limit_of}
 use Rattle.fx_tool.specs.Operand.{too_long}
+use Rattle.fx_tool.proofs.Followed.{content_holds, long_status}
 use Rattle.fx_tool.specs.Plan.{Plan, Ends, Reads, by_content, answer_by}
 use Rattle.fx_tool.specs.Running.{answer_of, names_to, operands_to, plan_to}
 use Rattle.fx_words.specs.declared.command.Verb.TheVariants.{Check}
@@ -83,8 +84,8 @@ has_certificate : (words : List (List ℕ)) (files : Files) (filter code cert by
 has_certificate words files filter code cert bytes f p h =
     has_code words files filter code cert h.code_bytes f h.before
     ∙ ap (after_code files cert f) ((code_law h.code_bytes p).1 h.spelled)
-    ∙ reads_on operand.Certificate [] cert [] (λ cert. Ends (certified Brief f p (certificate_in (lines_of cert)))) files
-    bytes h.bytes.there h.bytes.short
+    ∙ reads_on operand.Certificate [] cert [] (λ cert. Ends (certified Brief f p (certificate_in (lines_of cert))))
+    files bytes h.bytes.there h.bytes.short
 
 has_all : CertificateLaw → (words : List (List ℕ)) (files : Files) (filter code cert : List ℕ) (f : Filter) (p : Code)
     (c : Certificate) → HasAll words files filter code cert f p c → answer_of words files ≡ judged f p c
@@ -113,29 +114,17 @@ certified_not s done refused bad f p (Ok c) = judged_not s done refused f p c
 certified_not s done refused bad f p (Err fault) = bad
 
 long_not : (s : Status) → (TooLong ≡ s → ⊥) → (o : Operand) → IsNot s (too_long o)
-long_not s long operand.Filter = long
-long_not s long operand.Code = long
-long_not s long operand.Certificate = long
-long_not s long operand.Samples = long
-
-short_not : (s : Status) (b : Bool) (next long : Answer) → IsNot s next → IsNot s long → IsNot s (cond b next long)
-short_not s true next long n l = n
-short_not s false next long n l = l
-
-content_not : (s : Status) → (ReadFault ≡ s → ⊥) → (TooLong ≡ s → ⊥) → (o : Operand) (next : List ℕ → Answer) →
-    ((bytes : List ℕ) → IsNot s (next bytes)) → (file : Option (List ℕ)) →
-    IsNot s (by_content o absent (too_long o) next file)
-content_not s none long o next n None = none
-content_not s none long o next n (Some bytes) =
-    short_not s (nat_le (length bytes) (limit_of o)) (next bytes) (too_long o) (n bytes) (long_not s long o)
+long_not s long o e = long (sym (long_status o) ∙ e)
 
 -- a program's bytes that are read
 program_not : (s : Status) → (Done ≡ s → ⊥) → (Refused ≡ s → ⊥) → (BadCertificate ≡ s → ⊥) →
     (ReadFault ≡ s → ⊥) → (TooLong ≡ s → ⊥) → (files : Files) (cert : List ℕ) (f : Filter) (p : Code) →
     IsNot s (after_code files cert f (Ok p))
 program_not s done refused bad none long files cert f p =
-    content_not s none long operand.Certificate (λ bytes. certified Brief f p (certificate_in (lines_of bytes)))
-    (λ bytes. certified_not s done refused bad f p (certificate_in (lines_of bytes))) (get files cert)
+    content_holds (λ a. IsNot s a) operand.Certificate
+    (λ bytes. certified Brief f p (certificate_in (lines_of bytes))) (get files cert) none
+    (long_not s long operand.Certificate)
+    (λ bytes. certified_not s done refused bad f p (certificate_in (lines_of bytes)))
 
 code_not : (s : Status) → (Done ≡ s → ⊥) → (Refused ≡ s → ⊥) → (BadCertificate ≡ s → ⊥) → (BadCode ≡ s → ⊥) →
     (ReadFault ≡ s → ⊥) → (TooLong ≡ s → ⊥) → (files : Files) (cert : List ℕ) (f : Filter)
@@ -148,8 +137,9 @@ filter_not : (s : Status) → (Done ≡ s → ⊥) → (Refused ≡ s → ⊥) �
     (ReadFault ≡ s → ⊥) → (TooLong ≡ s → ⊥) → (files : Files) (code cert : List ℕ) (f : Filter) →
     IsNot s (after_filter files code cert (Ok f))
 filter_not s done refused bad bad_code none long files code cert f =
-    content_not s none long operand.Code (λ bytes. after_code files cert f (code_in bytes))
-    (λ bytes. code_not s done refused bad bad_code none long files cert f (code_in bytes)) (get files code)
+    content_holds (λ a. IsNot s a) operand.Code (λ bytes. after_code files cert f (code_in bytes)) (get files code) none
+    (long_not s long operand.Code)
+    (λ bytes. code_not s done refused bad bad_code none long files cert f (code_in bytes))
 
 -- ---- each status
 
@@ -230,8 +220,8 @@ passing_files law none files filter code cert f p c h passes =
     ∙ reads_on operand.Code (operand.Certificate ∷ []) code (cert ∷ []) (λ code. code_plan Brief f (code_in code)) files
     h.code_bytes h.has_code.there h.has_code.short
     ∙ ap (after_code files cert f) ((code_law h.code_bytes p).1 h.spelled)
-    ∙ reads_on operand.Certificate [] cert [] (λ cert. Ends (certified Brief f p (certificate_in (lines_of cert)))) files
-    h.cert_bytes h.has_cert.there h.has_cert.short
+    ∙ reads_on operand.Certificate [] cert [] (λ cert. Ends (certified Brief f p (certificate_in (lines_of cert))))
+    files h.cert_bytes h.has_cert.there h.has_cert.short
     ∙ ap (certified Brief f p) ((law h.cert_bytes c).1 h.text)
     ∙ judged_accepted f p c ((none f p c).1 passes)
 

@@ -1,5 +1,5 @@
 -- What follows a plan behind the first file, follows the plan from that file on.
-use Rattle.std.proofs.Common.{◌≡◌, inl, inr, ◌∙◌, ℕ, ◌+◌, ◌≤◌, cond, List, ◌∷◌, length}
+use Rattle.std.proofs.Common.{◌≡◌, ◌∙◌, ℕ, ◌+◌, ◌≤◌, nat_le, Bool, true, false, cond, List, ◌∷◌, length}
 use Rattle.std.proofs.Common.{Option, Some, None, IsSomeAnd, Result, Ok, Err, IfOk, refl, sym, ap, subst, arith}
 use Rattle.std.specs.FinMap.{get}
 use Rattle.fx_io.specs.Causes.{HasCause}
@@ -13,7 +13,29 @@ use Rattle.fx_tool.specs.Plan.{Plan, Ends, Reads, by_content, answer_by, calls_b
 use Rattle.fx_tool.specs.Plan.{Follows}
 use Rattle.fx_tool.specs.Reading.{Has, HoldsContent, read_calls}
 use Rattle.fx_words.specs.declared.operand.Operand.{Operand}
+use Rattle.fx_words.specs.declared.operand.Operand.TheVariants as operand
+use Rattle.fx_tool.specs.declared.status.Status.TheVariants.{TooLong}
 use Rattle.std.proofs.lemmas.Bool.{le-leb}
+use Rattle.fx_tool.proofs.Counted.{none_where_ok}
+
+-- ---- what comes of a file
+
+pub long_status : (o : Operand) → (too_long o).status ≡ TooLong
+long_status operand.Filter = refl
+long_status operand.Code = refl
+long_status operand.Certificate = refl
+long_status operand.Samples = refl
+
+either : (P : Answer → Type 0) (b : Bool) (next long : Answer) → P next → P long → P (cond b next long)
+either P true next long n l = n
+either P false next long n l = l
+
+-- P holds of it, where it holds of an absent file, of a longer one and of what comes of each content
+pub content_holds : (P : Answer → Type 0) (o : Operand) (next : List ℕ → Answer) (file : Option (List ℕ)) → P absent →
+    P (too_long o) → ((content : List ℕ) → P (next content)) → P (by_content o absent (too_long o) next file)
+content_holds P o next None none long each = none
+content_holds P o next (Some content) none long each =
+    either P (nat_le (length content) (limit_of o)) (next content) (too_long o) (each content) long
 
 -- ---- the answer
 
@@ -24,7 +46,7 @@ goes_on o none long next bytes None h = absurd h
 goes_on o none long next bytes (Some content) h =
     ap (λ b. cond b (next content) long) (le-leb (length content) (limit_of o) h.1) ∙ ap next h.0
 
-told_answer : (os : List Operand) (names : List (List ℕ)) (plan : Plan) (files : Files) (P : Answer → Type 0) →
+pub told_answer : (os : List Operand) (names : List (List ℕ)) (plan : Plan) (files : Files) (P : Answer → Type 0) →
     OfAnswer os names plan (Some files) P → P (answer_by os names plan files)
 told_answer os names (Ends a) files P h = h
 told_answer os names (Reads next) files P h = h
@@ -73,15 +95,6 @@ calls_go_on o os name names next (Some files) bytes there =
     ∙ sym (told_calls os names (next bytes) files) in
     omega (arith, later)
 
--- ---- the shelf
-
-no_fault : {X : Type 0} (before now : ℕ) (read : Result X IoFault) (value : X) → read ≡ Ok value →
-    HasCause before now read → now ≡ before
-no_fault before now read value e h = elim h.kept [
-  | inl same ↦ same
-  | inr failed ↦ cc
-]
-
 -- ---- both
 
 pub after_read : {X : Type 0} (o : Operand) (os : List Operand) (name : List ℕ) (names : List (List ℕ))
@@ -98,7 +111,7 @@ after_read o os name names next before middle now found bytes read value result 
     let few : now.calls ≤ middle.calls + plan_calls os names (next bytes) before.files =
     subst (λ told. now.calls ≤ middle.calls + plan_calls os names (next bytes) told) first.files later.shelf.few in
     let same : middle.read_faults ≡ before.read_faults =
-    no_fault before.read_faults middle.read_faults read value ok first.cause in
+    none_where_ok before.read_faults middle.read_faults read value ok first.cause in
     record {
       answer = if_answer_goes_on o os name names next before.files bytes result there
           (subst (λ told. IfOk result (λ answer. OfAnswer os names (next bytes) told (λ a. a ≡ answer)))

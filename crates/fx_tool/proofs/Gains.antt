@@ -1,6 +1,6 @@
 -- What is found over the first listed length that serves, and that each listed length fails.
-use Rattle.std.proofs.Common.{◌≡◌, ◌∙◌, ℕ, zero, suc, ◌+◌, ◌<◌, ◌++◌, ℤ, arith, List, [], ◌∷◌, length, map, codes, Option}
-use Rattle.std.proofs.Common.{Some, None, refl, sym, ap, ap₂, subst}
+use Rattle.std.proofs.Common.{◌≡◌, ◌∙◌, ℕ, zero, suc, ◌<◌, ◌++◌, ℤ, arith, List, [], ◌∷◌, length, map, codes}
+use Rattle.std.proofs.Common.{Some, None, refl, sym, ap, ap₂}
 use Rattle.std.proofs.lemmas.List.Folds.{flat_map-map}
 use Rattle.fx_math.specs.Sums.{joined}
 use Rattle.fx_net.specs.Net.{Net}
@@ -8,12 +8,11 @@ use Rattle.fx_nums.specs.Interval.{Interval}
 use Rattle.fx_files.specs.Filter.{Filter}
 use Rattle.fx_gain.specs.Enclosing.{enclosure, worst_words}
 use Rattle.fx_gain.specs.Lengths.{first_serving, length_failure, original_net, serving_or}
-use Rattle.fx_gain.specs.Peak.{EnclosesPeak}
-use Rattle.fx_gain.specs.Peaks.{PeakValues, ArePeaks, EachFails, EnclosePeaks, interval_of, words_of}
+use Rattle.fx_gain.specs.Peaks.{PeakValues, ArePeaks, EachFails, interval_of, words_of}
 use Rattle.fx_gain.specs.declared.fails.LengthFail.{LengthFail}
 use Rattle.fx_findings.specs.Peaks.{gain_lines, no_length_lines, peak_lines}
-use Rattle.fx_tool.specs.Answer.{Answer, says}
-use Rattle.fx_tool.specs.Gain.{all_lines, by_serving, fail_text, fails_text, gains, gains_text, serving, GainsEnclose}
+use Rattle.fx_tool.specs.Answer.{says}
+use Rattle.fx_tool.specs.Gain.{all_lines, by_serving, fail_text, fails_text, gains}
 use Rattle.fx_tool.specs.declared.status.Status.TheVariants.{Done, NoDesign}
 
 -- ---- the same lines of the same numbers
@@ -62,14 +61,3 @@ none_found f fails h =
     ap (by_serving f) (none_serves (original_net f) f f.settings.lengths fails h)
     ∙ ap (λ failures. says NoDesign (fails_text failures)) h
     ∙ ap (λ lines. says NoDesign (codes "no design\n" ++ lines)) (flat_map-map fail_text Some fails)
-
--- ---- the enclosures
-
-pub peaks_enclose : (f : Filter) (p : PeakValues) → ArePeaks (original_net f) f p → EnclosePeaks f p → GainsEnclose f
-peaks_enclose f p are h m serves o i lo li =
-    let both : Some p.moments ≡ Some m = sym are.serves ∙ serves in
-    let same : p.moments ≡ m = cc in
-    let interval = subst (λ v. EnclosesPeak f o i v (words_of p o i)) (are.intervals_are o i lo li) (h o i lo li) in
-    let words = subst (λ w. EnclosesPeak f o i (enclosure (original_net f) f p.moments o i) w)
-    (are.words_are o i lo li) interval in
-    subst (λ m. EnclosesPeak f o i (enclosure (original_net f) f m o i) (worst_words (original_net f) f m o i)) same words

@@ -5,7 +5,6 @@ use Rattle.std.proofs.Common.{◌≤◌}
 use Rattle.std.proofs.lemmas.Bool.{leb-true}
 use Rattle.std.specs.FinMap.{get}
 use Rattle.std.specs.Option.{option_or}
-use Rattle.std.specs.Prelude.{option_and_then}
 use Rattle.fx_io.specs.Shelf.{Files}
 use Rattle.fx_files.proofs.HeldFilter.{file_law}
 use Rattle.fx_files.specs.Describes.{IsFileOf}
@@ -36,6 +35,8 @@ use Rattle.fx_lines.specs.Filter.{filter_lines}
 use Rattle.fx_lines.specs.Report.{report_lines}
 use Rattle.fx_lines.specs.Verdict.{accepted_lines}
 use Rattle.fx_tool.proofs.CheckCauses.{passing_files}
+use Rattle.fx_tool.proofs.Followed.{long_status, told_answer}
+use Rattle.fx_tool.proofs.JobRuns.{large_done}
 use Rattle.fx_tool.proofs.Making.{read_done}
 use Rattle.fx_tool.proofs.TwoPlaced.{Apart, Hold, three_names, two_placed}
 use Rattle.fx_tool.specs.Answer.{Answer, absent, Delivers}
@@ -45,6 +46,7 @@ use Rattle.fx_words.specs.Command.{Command, names_fit, operands_of, targets_of}
 use Rattle.fx_words.specs.Words.{command_of, IsWhole}
 use Rattle.fx_words.proofs.Completeness.{commands_are_whole}
 use Rattle.fx_tool.specs.Gain.{by_serving, gained, gains, gains_text, serving, BytesEnclose, Gains, GainsEnclose}
+use Rattle.fx_tool.specs.Large.{operand_number}
 use Rattle.fx_tool.specs.Made.{made_certificate, made_program}
 use Rattle.fx_tool.specs.Make.{FilterIsServed, IsServed, Makes, Serves, made_of_bytes}
 use Rattle.fx_tool.specs.Placing.{placings, with_placed}
@@ -59,13 +61,17 @@ use Rattle.fx_tool.specs.Show.{shown, Shows}
 use Rattle.fx_tool.specs.Simulate.{outputs, samples_plan, Simulates}
 use Rattle.fx_tool.specs.Writing.{GrowsBy}
 use Rattle.fx_words.specs.declared.command.Verb.{Verb}
-use Rattle.fx_words.specs.declared.command.Verb.TheVariants.{Check, Gain, Make, Report, Show, Simulate}
+use Rattle.fx_words.specs.declared.command.Verb.TheVariants.{Check, Gain, Large, Make, Report, Show, Simulate}
 use Rattle.fx_tool.specs.declared.judgement.Detail.{Detail}
 use Rattle.fx_tool.specs.declared.judgement.Detail.TheVariants.{Brief, Full}
 use Rattle.fx_words.specs.declared.operand.Operand.{Operand}
 use Rattle.fx_words.specs.declared.operand.Operand.TheVariants as operand
 use Rattle.fx_tool.specs.declared.status.Status.{Status}
-use Rattle.fx_tool.specs.declared.status.Status.TheVariants.{Done, Usage}
+use Rattle.fx_tool.specs.declared.status.Status.TheVariants.{Done, TooLong, Usage}
+
+-- the answer of a command with these names
+abbrev answer_for : Verb → List (List ℕ) → Files → Answer
+answer_for v names files = answer_by (operands_of v) names (plan_of v names) files
 
 -- ---- where the answer is 0, the first file is there and not too long
 
@@ -73,10 +79,7 @@ along : (a b : Answer) → a ≡ b → a.status ≡ Done → b.status ≡ Done
 along a b e h = sym (ap (λ (x : Answer). x.status) e) ∙ h
 
 long_refused : (o : Operand) → (too_long o).status ≡ Done → ⊥
-long_refused operand.Filter h = cc
-long_refused operand.Code h = cc
-long_refused operand.Certificate h = cc
-long_refused operand.Samples h = cc
+long_refused o h = let no : TooLong ≡ Done = sym (long_status o) ∙ h in cc
 
 short_done : (b : Bool) (next long : Answer) → (long.status ≡ Done → ⊥) → (cond b next long).status ≡ Done →
     cond b next long ≡ next
@@ -132,8 +135,8 @@ shown_done (Ok f) h = (f, refl, refl)
 shown_done (Err fault) h = cc
 
 show_done : (files : Files) (names : List (List ℕ)) (before after : Option (List ℕ)) →
-    (answer_by (operands_of Show) names (plan_of Show names) files).status ≡ Done
-    → GrowsBy (answer_by (operands_of Show) names (plan_of Show names) files).text before after →
+    (answer_for Show names files).status ≡ Done
+    → GrowsBy (answer_for Show names files).text before after →
     Claims Show names files before after
 show_done files names before after h grows =
     let file = is_read operand.Filter [] names (λ bytes. Ends (shown (filter_of_bytes bytes))) files h in
@@ -159,8 +162,8 @@ outputs_done (Ok t) h = (t, refl, refl)
 outputs_done (Err fault) h = cc
 
 simulate_done : (files : Files) (names : List (List ℕ)) (before after : Option (List ℕ)) →
-    (answer_by (operands_of Simulate) names (plan_of Simulate names) files).status ≡ Done
-    → GrowsBy (answer_by (operands_of Simulate) names (plan_of Simulate names) files).text before after →
+    (answer_for Simulate names files).status ≡ Done
+    → GrowsBy (answer_for Simulate names files).text before after →
     Claims Simulate names files before after
 simulate_done files names before after h grows =
     let file = is_read operand.Code (operand.Samples ∷ []) names (λ bytes. samples_plan (code_in bytes)) files h in
@@ -315,7 +318,8 @@ is_judged detail files names h =
     }
 
 -- what the code of `check` shows, of what the files are read as
-judged_sound : (detail : Detail) (files : Files) (names : List (List ℕ)) (answer : Answer) (j : IsJudged detail files names answer) →
+judged_sound : (detail : Detail) (files : Files) (names : List (List ℕ)) (answer : Answer)
+    (j : IsJudged detail files names answer) →
     FilesAreSound (Some files) j.filter_name j.code_name j.cert_name →
     IsSound j.filter j.program j.certificate.errors
 judged_sound detail files names answer j sound =
@@ -328,7 +332,8 @@ judged_sound detail files names answer j sound =
     of_value (certificate_in (lines_of j.cert_bytes)) j.certificate _ j.cert_read cert
 
 headline : CertificateLaw → (detail : Detail) (files : Files) (names : List (List ℕ)) (answer : Answer)
-    (before after : Option (List ℕ)) (j : IsJudged detail files names answer) → FilesAreSound (Some files) j.filter_name j.code_name j.cert_name →
+    (before after : Option (List ℕ)) (j : IsJudged detail files names answer) →
+    FilesAreSound (Some files) j.filter_name j.code_name j.cert_name →
     GrowsBy answer.text before after → Headline detail files j.filter_name j.code_name j.cert_name before after
 headline law detail files names answer before after j sound grows = record {
   filter = j.filter;
@@ -345,28 +350,28 @@ headline law detail files names answer before after j sound grows = record {
 }
 
 check_done : CertificateLaw → (files : Files) (names : List (List ℕ)) (before after : Option (List ℕ)) →
-    (answer_by (operands_of Check) names (plan_of Check names) files).status ≡ Done →
+    (answer_for Check names files).status ≡ Done →
     Establishes Check names (Some files)
-    → GrowsBy (answer_by (operands_of Check) names (plan_of Check names) files).text before after →
+    → GrowsBy (answer_for Check names files).text before after →
     Claims Check names files before after
 check_done law files names before after h sound grows =
     let j = is_judged Brief files names h in
     let shown = subst (λ (names : List (List ℕ)). Establishes Check names (Some files)) j.names_are sound in
     subst (λ (names : List (List ℕ)). Claims Check names files before after) (sym j.names_are)
-    (headline law Brief files names (answer_by (operands_of Check) names (plan_of Check names) files) before after j shown
-    grows)
+    (headline law Brief files names (answer_for Check names files) before after j
+    shown grows)
 
 report_done : CertificateLaw → (files : Files) (names : List (List ℕ)) (before after : Option (List ℕ)) →
-    (answer_by (operands_of Report) names (plan_of Report names) files).status ≡ Done →
+    (answer_for Report names files).status ≡ Done →
     Establishes Report names (Some files)
-    → GrowsBy (answer_by (operands_of Report) names (plan_of Report names) files).text before after →
+    → GrowsBy (answer_for Report names files).text before after →
     Claims Report names files before after
 report_done law files names before after h sound grows =
     let j = is_judged Full files names h in
     let shown = subst (λ (names : List (List ℕ)). Establishes Report names (Some files)) j.names_are sound in
     subst (λ (names : List (List ℕ)). Claims Report names files before after) (sym j.names_are)
-    (headline law Full files names (answer_by (operands_of Report) names (plan_of Report names) files) before after j shown
-    grows)
+    (headline law Full files names (answer_for Report names files) before after j
+    shown grows)
 
 -- ---- `gain`
 
@@ -394,8 +399,8 @@ gained_done (Ok f) h =
 gained_done (Err fault) h = cc
 
 gain_done : (files : Files) (names : List (List ℕ)) (before after : Option (List ℕ)) →
-    (answer_by (operands_of Gain) names (plan_of Gain names) files).status ≡ Done → Establishes Gain names (Some files)
-    → GrowsBy (answer_by (operands_of Gain) names (plan_of Gain names) files).text before after →
+    (answer_for Gain names files).status ≡ Done → Establishes Gain names (Some files)
+    → GrowsBy (answer_for Gain names files).text before after →
     Claims Gain names files before after
 gain_done files names before after h shown grows =
     let file = is_read operand.Filter [] names (λ bytes. Ends (gained (filter_of_bytes bytes))) files h in
@@ -421,13 +426,13 @@ gain_done files names before after h shown grows =
 -- ---- `make`
 
 -- of three files, the second and the third as they are placed
-made : CertificateLaw → NoneFails → (files files' : Files) (filter code cert : List ℕ) (before after : Option (List ℕ)) →
-    Apart filter code cert →
-    (answer_by (operands_of Make) (filter ∷ code ∷ cert ∷ []) (plan_of Make (filter ∷ code ∷ cert ∷ [])) files).status ≡ Done →
+made : CertificateLaw → NoneFails → (files files' : Files) (filter code cert : List ℕ)
+    (before after : Option (List ℕ)) → Apart filter code cert →
+    (answer_for Make (filter ∷ code ∷ cert ∷ []) files).status ≡ Done →
     Establishes Make (filter ∷ code ∷ cert ∷ []) (Some files)
-    → GrowsBy (answer_by (operands_of Make) (filter ∷ code ∷ cert ∷ []) (plan_of Make (filter ∷ code ∷ cert ∷ [])) files).text before after →
+    → GrowsBy (answer_for Make (filter ∷ code ∷ cert ∷ []) files).text before after →
     files' ≡ with_placed (placings (code ∷ cert ∷ [])
-    (answer_by (operands_of Make) (filter ∷ code ∷ cert ∷ []) (plan_of Make (filter ∷ code ∷ cert ∷ [])) files).placed) files →
+    (answer_for Make (filter ∷ code ∷ cert ∷ []) files).placed) files →
     Makes files' filter code cert before after
 made law none files files' filter code cert before after apart h served grows left =
     let (bytes, found, short, same) = content_done operand.Filter (get files filter)
@@ -437,12 +442,14 @@ made law none files files' filter code cert before after apart h served grows le
     let c = read.made.candidate in
     let p = read.made.passing in
     let answer = same ∙ read.made.same in
-    let serves : Serves f c p = of_value (filter_of_bytes bytes) f IsServed read.read
+    let serves : Serves f (made_program f p) (made_certificate f c.length p) =
+    of_value (filter_of_bytes bytes) f IsServed read.read
     (of_file (get files filter) bytes FilterIsServed found served) c p read.made.first in
     let hold = subst (λ (m : Files). Hold files m filter code cert (code_text (made_program f p))
     (text_of (made_certificate f c.length p)))
     (sym (left ∙ ap (λ (a : Answer). with_placed (placings (code ∷ cert ∷ []) a.placed) files) answer))
-    (two_placed files filter code cert (code_text (made_program f p)) (text_of (made_certificate f c.length p)) apart) in
+    (two_placed files filter code cert (code_text (made_program f p)) (text_of (made_certificate f c.length p))
+    apart) in
     let described = (file_law bytes f).0 read.read in
     let first = hold.first_kept ∙ found in
     record {
@@ -475,17 +482,17 @@ made law none files files' filter code cert before after apart h served grows le
 -- where it ends with 0, its files are as it claims
 make_done : CertificateLaw → NoneFails → (files files' : Files) (names : List (List ℕ))
     (before after : Option (List ℕ)) → names_fit Make names ≡ true →
-    (answer_by (operands_of Make) names (plan_of Make names) files).status ≡ Done → Establishes Make names (Some files)
-    → GrowsBy (answer_by (operands_of Make) names (plan_of Make names) files).text before after →
+    (answer_for Make names files).status ≡ Done → Establishes Make names (Some files)
+    → GrowsBy (answer_for Make names files).text before after →
     files' ≡ with_placed (placings (targets_of Make names)
-    (answer_by (operands_of Make) names (plan_of Make names) files).placed) files → Claims Make names files' before after
+    (answer_for Make names files).placed) files → Claims Make names files' before after
 make_done law none files files' names before after fit =
     let three = three_names names fit in
     subst (λ (names : List (List ℕ)).
-    (answer_by (operands_of Make) names (plan_of Make names) files).status ≡ Done → Establishes Make names (Some files)
-    → GrowsBy (answer_by (operands_of Make) names (plan_of Make names) files).text before after →
+    (answer_for Make names files).status ≡ Done → Establishes Make names (Some files)
+    → GrowsBy (answer_for Make names files).text before after →
     files' ≡ with_placed (placings (targets_of Make names)
-    (answer_by (operands_of Make) names (plan_of Make names) files).placed) files → Claims Make names files' before after)
+    (answer_for Make names files).placed) files → Claims Make names files' before after)
     (sym three.are) (made law none files files' three.first three.second three.third before after three.apart)
 
 -- a command that places nothing leaves its files
@@ -495,14 +502,16 @@ kept v names files files' before after left h = subst (λ (f : Files). Claims v 
 
 verb_done : CertificateLaw → NoneFails → (v : Verb) (names : List (List ℕ)) (files files' : Files)
     (before after : Option (List ℕ)) → names_fit v names ≡ true →
-    (answer_by (operands_of v) names (plan_of v names) files).status ≡ Done → Establishes v names (Some files)
-    → GrowsBy (answer_by (operands_of v) names (plan_of v names) files).text before after →
-    files' ≡ with_placed (placings (targets_of v names) (answer_by (operands_of v) names (plan_of v names) files).placed) files
+    (answer_for v names files).status ≡ Done → Establishes v names (Some files)
+    → GrowsBy (answer_for v names files).text before after →
+    files' ≡ with_placed (placings (targets_of v names) (answer_for v names files).placed) files
     → Claims v names files' before after
 verb_done law none Check names files files' before after fit h shows grows left =
     kept Check names files files' before after left (check_done law files names before after h shows grows)
 verb_done law none Gain names files files' before after fit h shows grows left =
     kept Gain names files files' before after left (gain_done files names before after h shows grows)
+verb_done law none Large names files files' before after fit h shows grows left =
+    kept Large names files files' before after left (large_done (operand_number names) before after h shows grows)
 verb_done law none Make names files files' before after fit h shows grows left =
     make_done law none files files' names before after fit h shows grows left
 verb_done law none Report names files files' before after fit h shows grows left =
@@ -521,11 +530,6 @@ answered a before after h = elim h.which [
   | inr (inr (inr e)) ↦ cc
 ]
 
-told_answer : (os : List Operand) (names : List (List ℕ)) (plan : Plan) (files : Files) (P : Answer → Type 0) →
-    OfAnswer os names plan (Some files) P → P (answer_by os names plan files)
-told_answer os names (Ends a) files P h = h
-told_answer os names (Reads next) files P h = h
-
 -- the names of the words' command fit it
 fits_of : (c : Option Command) → IsWhole c → (d : Command) → c ≡ Some d → names_fit d.verb d.names ≡ true
 fits_of c whole d e = subst (λ (c : Option Command). IsWhole c) e whole
@@ -541,8 +545,9 @@ command_done : CertificateLaw → NoneFails → (c : Option Command) →
 command_done law none None fits files files' before after shows h left =
     absurd (let e : Usage ≡ Done = answered (answer_by [] [] (plan_to None) files) before after h in cc)
 command_done law none (Some c) fits files files' before after shows h left =
-    let given = told_answer (operands_of c.verb) c.names (plan_of c.verb c.names) files (λ a. Delivers a Done before after) h in
-    let done = answered (answer_by (operands_of c.verb) c.names (plan_of c.verb c.names) files) before after given in
+    let given = told_answer (operands_of c.verb) c.names (plan_of c.verb c.names) files
+    (λ a. Delivers a Done before after) h in
+    let done = answered (answer_for c.verb c.names files) before after given in
     verb_done law none c.verb c.names files files' before after (fits c refl) done shows (given.whole (sym done))
     (left (sym done))
 

@@ -1,9 +1,10 @@
 pub mod Answering
 pub mod CheckCauses
+pub mod Counted
 pub mod Followed
 pub mod Gains
 pub mod Headline
-pub mod Listed
+pub mod JobRuns
 pub mod Making
 pub mod Placed
 pub mod ReadSoFar

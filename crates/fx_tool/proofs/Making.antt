@@ -1,9 +1,9 @@
 -- What is made of a candidate that passes is the program and the certificate of the answer.
-use Rattle.std.proofs.Common.{◌≡◌, ◌∙◌, inl, inr, ℕ, zero, suc, ◌+◌, ◌-◌, ◌^◌, ◌<◌, ◌≤◌, nat_lt, cond, List, [], ◌∷◌, length}
-use Rattle.std.proofs.Common.{map, Result, Ok, Err, refl, sym, ap, ap₂, subst, arith, slice_index_or, get_or}
+use Rattle.std.proofs.Common.{◌≡◌, ◌∙◌, inl, inr, ℕ, zero, suc, ◌+◌, ◌-◌, ◌^◌, ◌<◌, ◌≤◌, List, [], ◌∷◌}
+use Rattle.std.proofs.Common.{length, Result, Ok, Err, refl, sym, ap, ap₂, subst, arith, slice_index_or}
 use Rattle.std.proofs.Math.IntN.{ℤ, pos}
 use Rattle.std.specs.Int.Signed.{◌≤ℤ◌}
-use Rattle.std.proofs.Common.{unsigned_abs, IfOk}
+use Rattle.std.proofs.Common.{IfOk}
 use Rattle.std.proofs.lemmas.Bool.{cases_lt, cond-true, cond-false, lt-ltb, le-ltb}
 use Rattle.std.proofs.lemmas.Int.{ints}
 use Rattle.std.proofs.lemmas.Nat.{pow_pos}
@@ -16,30 +16,25 @@ use Rattle.fx_files.specs.Filter.{Filter}
 use Rattle.fx_keys.specs.declared.fault.FilterFault.{FilterFault}
 use Rattle.fx_code.specs.Code.{BareRow, Code, Row, bare, row_at}
 use Rattle.fx_code.specs.Fits.{CodeFits, RowFits}
-use Rattle.fx_code.specs.NetRows.{bare_at, bare_rows}
+use Rattle.fx_code.specs.NetRows.{bare_at}
 use Rattle.fx_cert.specs.Certificate.{Certificate, CertificateFits}
 use Rattle.fx_block.specs.Candidate.{candidate_count, candidate_total, inner_count}
-use Rattle.fx_block.specs.Formats.{input_at, output_at}
+use Rattle.fx_block.specs.Formats.{input_at}
 use Rattle.fx_block.specs.Made.{IsCertificateOf, IsProgramOf}
-use Rattle.fx_block.specs.Passes.{bound_at, error_at}
 use Rattle.fx_quant.specs.Design.{sized}
 use Rattle.fx_make.specs.Candidates.{Candidate, Passing}
-use Rattle.fx_tool.proofs.Listed.{listed_at, listed_count}
-use Rattle.fx_text.specs.Grammar.{Spells}
-use Rattle.fx_text.specs.Writing.{code_text}
-use Rattle.fx_cert.specs.Certificate.{IsTextOf, text_of}
-use Rattle.fx_block.specs.Passes.{Passes}
-use Rattle.fx_block.specs.Sound.{IsSound}
+use Rattle.fx_block.proofs.Places.{listed_at, listed_length}
 use Rattle.fx_make.specs.Made.{IsFoundIn, IsMadeOf, found}
 use Rattle.fx_make.specs.Search.{Progress}
 use Rattle.fx_make.specs.Search.Progress.{AllFailed, Found}
 use Rattle.fx_make.specs.declared.answer.Made.{Made}
 use Rattle.fx_make.specs.declared.fail.Failed.{Failed}
 use Rattle.fx_make.specs.declared.refusal.StructureFault.{StructureFault}
-use Rattle.fx_findings.specs.Designs.{design_lines, no_design_lines}
+use Rattle.fx_findings.specs.Designs.{no_design_lines}
 use Rattle.fx_findings.specs.Structures.{structure_fault_line}
 use Rattle.fx_tool.specs.Answer.{Answer, WhereDone, says}
-use Rattle.fx_tool.specs.Make.{AreShort, IsServed, Serves, files_of, made_answer, made_of_bytes, of_found, placed_for}
+use Rattle.fx_tool.specs.Make.{design_placed, files_of, made_answer, made_of_bytes, of_found, placed_for}
+use Rattle.fx_tool.specs.Make.{IsServed, Serves}
 use Rattle.fx_tool.specs.declared.status.Status.TheVariants.{Done, NoDesign, Unbuildable}
 use Rattle.fx_tool.specs.Made.{first_width, least_width, made_certificate, made_program, made_width}
 
@@ -48,7 +43,7 @@ module _ {A : Type 0} where
   is_listed : (d : A) (xs : List A) (n : ℕ) (g : ℕ → A) → length xs ≡ n →
       ((i : ℕ) → i < n → slice_index_or xs i d ≡ g i) → xs ≡ joined n (λ i. g i ∷ [])
   is_listed d xs n g count each =
-      ext_get_or d xs (joined n (λ i. g i ∷ [])) (count ∙ sym (listed_count n g))
+      ext_get_or d xs (joined n (λ i. g i ∷ [])) (count ∙ sym (listed_length n g))
       (λ i h. (let l : i < n = omega (arith, h, count) in each i l ∙ sym (listed_at n g i d l)))
 
 -- the least width is the first that serves
@@ -107,7 +102,8 @@ few_outputs : (f : Filter) (p : Passing) (q : Code) → CodeFits q → IsProgram
 few_outputs f p q fits is count = elim (cases_lt (length p.design.rows) (length f.outputs)) [
   | inl more ↦ (
       let o = length p.design.rows in
-      let there = All-get_or (λ row. row < length q.rows) q.outputs o 0 (omega (arith, more, is.outputs)) fits.outputs in
+      let there = All-get_or (λ row. row < length q.rows) q.outputs o 0 (omega (arith, more, is.outputs))
+      fits.outputs in
       let place = is.places o more in
       absurd (omega (arith, there, place, count)))
   | inr few ↦ few
@@ -117,7 +113,8 @@ pub program_is : (f : Filter) (p : Passing) (q : Code) → CodeFits q → IsProg
     q ≡ made_program f p
 program_is f p q fits is =
     let inputs = is_listed 0 q.inputs (length f.inputs) (λ j. (input_at f j).width) is.inputs is.input_widths in
-    let outputs = is_listed 0 q.outputs (length f.outputs) (λ o. inner_count f p.design.rows + o) is.outputs is.places in
+    let outputs = is_listed 0 q.outputs (length f.outputs) (λ o. inner_count f p.design.rows + o) is.outputs
+    is.places in
     let count : length q.rows ≡ length p.design.rows =
     sym (length-map q.rows bare) ∙ ap (λ (rows : List BareRow). length rows) is.rows_are in
     let out = few_outputs f p q fits is count in
@@ -145,114 +142,99 @@ certificate_is f moments p c fits is =
     ap (λ (l : ℕ). record { length = l; bounds = c.bounds; errors = c.errors }) is.length_is
     ∙ ap₂ (λ (b e : List ℤ). record { length = moments; bounds = b; errors = e }) bounds errors
 
--- ---- the answer
+-- ---- what is said of what was made is what is said of the candidate
 
-made_is : (f : Filter) (c : Candidate) (p : Passing) (m : Made) → IsMadeOf f c p m → CodeFits m.program →
-    CertificateFits m.cert → placed_for f c p ≡ files_of m
-made_is f c p m is fits fit =
+pub said_of_made : {X : Type 0} (say : ℕ → ℕ → ℕ → Code → Certificate → X) (f : Filter) (c : Candidate) (p : Passing)
+    (m : Made) → IsMadeOf f c p m → CodeFits m.program → CertificateFits m.cert →
+    say c.guard c.fraction c.length (made_program f p) (made_certificate f c.length p)
+    ≡ say m.guard m.fraction m.length m.program m.cert
+said_of_made say f c p m is fits fit =
     let program = program_is f p m.program fits is.program in
     let certificate = certificate_is f c.length p m.cert fit is.certificate in
-    let lines : design_lines c.guard c.fraction c.length (made_certificate f c.length p).errors
-    ≡ design_lines m.guard m.fraction m.length m.cert.errors =
-    ap₂ (λ g r. design_lines g r c.length (made_certificate f c.length p).errors) (sym is.guard) (sym is.fraction)
-    ∙ ap₂ (λ l (k : Certificate). design_lines m.guard m.fraction l k.errors) (sym is.length) (sym certificate) in
-    ap₂ (λ (q : Code) (k : Certificate). record {
-      status = Done;
-      placed = code_text q ∷ text_of k ∷ [];
-      text = design_lines c.guard c.fraction c.length (made_certificate f c.length p).errors;
-    }) (sym program) (sym certificate)
-    ∙ ap (λ (t : List ℕ). record {
-      status = Done;
-      placed = code_text m.program ∷ text_of m.cert ∷ [];
-      text = t;
-    }) lines
+    sym (ap₂ (λ (g r : ℕ). say g r m.length m.program m.cert) is.guard is.fraction
+    ∙ ap (λ (l : ℕ). say c.guard c.fraction l m.program m.cert) is.length
+    ∙ ap₂ (λ (q : Code) (k : Certificate). say c.guard c.fraction c.length q k) program certificate)
 
-found_is : (f : Filter) (m : Made) (r : Result Progress StructureFault) → IsFoundIn f m r → CodeFits m.program →
-    CertificateFits m.cert → of_found f r ≡ files_of m
-found_is f m (Ok (AllFailed fails)) h fits fit = absurd h
-found_is f m (Ok (Found c p)) h fits fit = made_is f c p m h fits fit
-found_is f m (Err why) h fits fit = absurd h
+-- of a search that found it
+pub found_is : (f : Filter) (tell : Candidate → Passing → Answer) (m : Made) (answer : Answer) →
+    ((c : Candidate) (p : Passing) → IsMadeOf f c p m → tell c p ≡ answer) → (r : Result Progress StructureFault) →
+    IsFoundIn f m r → of_found tell r ≡ answer
+found_is f tell m answer each (Ok (AllFailed fails)) h = absurd h
+found_is f tell m answer each (Ok (Found c p)) h = each c p h
+found_is f tell m answer each (Err why) h = absurd h
 
-pub answer_is_made : (f : Filter) (m : Made) → IsFoundIn f m (found f) → CodeFits m.program →
-    CertificateFits m.cert → made_answer f ≡ files_of m
-unfolding made_answer
-answer_is_made f m h fits fit = found_is f m (found f) h fits fit
-
-pub answer_is_none : (f : Filter) (fails : List Failed) → found f ≡ Ok (AllFailed fails) →
-    made_answer f ≡ says NoDesign (no_design_lines fails)
-unfolding made_answer
-answer_is_none f fails e = ap (of_found f) e
-
-pub answer_is_unbuildable : (f : Filter) (why : StructureFault) → found f ≡ Err why →
-    made_answer f ≡ says Unbuildable (structure_fault_line why)
-unfolding made_answer
-answer_is_unbuildable f why e = ap (of_found f) e
+-- and what holds of it
+pub found_holds : (f : Filter) (P : Code → Certificate → Type 0) (m : Made) (r : Result Progress StructureFault) →
+    IsFoundIn f m r → CodeFits m.program → CertificateFits m.cert → P m.program m.cert → (c : Candidate) (p : Passing) →
+    r ≡ Ok (Found c p) → P (made_program f p) (made_certificate f c.length p)
+found_holds f P m (Ok (AllFailed fails)) h fits fit holds c p e = absurd h
+found_holds f P m (Err why) h fits fit holds c p e = absurd h
+found_holds f P m (Ok (Found d o)) h fits fit holds c p e =
+    let first : P (made_program f o) (made_certificate f d.length o) =
+    subst (λ (k : Certificate). P (made_program f o) k) (certificate_is f d.length o m.cert fit h.certificate)
+    (subst (λ (q : Code). P q m.cert) (program_is f o m.program fits h.program) holds) in
+    let found : Found d o ≡ Found c p = cc in
+    found_same d c o p found first
+  where
+    found_same : (d c : Candidate) (o p : Passing) → Found d o ≡ Found c p →
+        P (made_program f o) (made_certificate f d.length o) → P (made_program f p) (made_certificate f c.length p)
+    found_same d c o p e h =
+        let candidate : d ≡ c = cc in
+        let passing : o ≡ p = cc in
+        subst (λ (c : Candidate). P (made_program f p) (made_certificate f c.length p)) candidate
+        (subst (λ (p : Passing). P (made_program f p) (made_certificate f d.length p)) passing h)
 
 -- ---- where the answer is 0
 
 -- the first candidate that passes
-pub record IsFirst (f : Filter) (answer : Answer) : Type 0 where
+pub record IsFirst (f : Filter) (tell : Candidate → Passing → Answer) (answer : Answer) : Type 0 where
   pub candidate : Candidate
   pub passing : Passing
   pub first : found f ≡ Ok (Found candidate passing)
-  pub same : answer ≡ placed_for f candidate passing
+  pub same : answer ≡ tell candidate passing
 
-search_done : (f : Filter) (r : Result Progress StructureFault) → found f ≡ r → (of_found f r).status ≡ Done →
-    IsFirst f (of_found f r)
-search_done f (Ok (AllFailed fails)) e h = cc
-search_done f (Ok (Found c p)) e h = record { candidate = c; passing = p; first = e; same = refl }
-search_done f (Err why) e h = cc
+pub search_done : (f : Filter) (tell : Candidate → Passing → Answer) (r : Result Progress StructureFault) →
+    found f ≡ r → (of_found tell r).status ≡ Done → IsFirst f tell (of_found tell r)
+search_done f tell (Ok (AllFailed fails)) e h = cc
+search_done f tell (Ok (Found c p)) e h = record { candidate = c; passing = p; first = e; same = refl }
+search_done f tell (Err why) e h = cc
 
-made_done : (f : Filter) → (made_answer f).status ≡ Done → IsFirst f (made_answer f)
+-- ---- the answer of `make`
+
+pub answer_is_made : (f : Filter) (m : Made) → IsFoundIn f m (found f) → CodeFits m.program →
+    CertificateFits m.cert → made_answer f ≡ files_of m
 unfolding made_answer
-made_done f h = search_done f (found f) refl h
+answer_is_made f m h fits fit =
+    found_is f (λ c p. placed_for f c p) m (files_of m) (λ c p is. said_of_made design_placed f c p m is fits fit)
+    (found f) h
+
+pub answer_is_none : (f : Filter) (fails : List Failed) → found f ≡ Ok (AllFailed fails) →
+    made_answer f ≡ says NoDesign (no_design_lines fails)
+unfolding made_answer
+answer_is_none f fails e = ap (of_found (λ c p. placed_for f c p)) e
+
+pub answer_is_unbuildable : (f : Filter) (why : StructureFault) → found f ≡ Err why →
+    made_answer f ≡ says Unbuildable (structure_fault_line why)
+unfolding made_answer
+answer_is_unbuildable f why e = ap (of_found (λ c p. placed_for f c p)) e
+
+made_done : (f : Filter) → (made_answer f).status ≡ Done → IsFirst f (λ c p. placed_for f c p) (made_answer f)
+unfolding made_answer
+made_done f h = search_done f (λ c p. placed_for f c p) (found f) refl h
 
 -- the filter that is read, and its first candidate that passes
 pub record IsMade (r : Result Filter FilterFault) (answer : Answer) : Type 0 where
   pub filter : Filter
   pub read : r ≡ Ok filter
-  pub made : IsFirst filter answer
+  pub made : IsFirst filter (λ c p. placed_for filter c p) answer
 
 pub read_done : (r : Result Filter FilterFault) → (made_of_bytes r).status ≡ Done → IsMade r (made_of_bytes r)
 read_done (Ok f) h = record { filter = f; read = refl; made = made_done f h }
 read_done (Err fault) h = cc
 
--- ---- what is made serves
-
-found_serves : (f : Filter) (m : Made) (r : Result Progress StructureFault) → IsFoundIn f m r → CodeFits m.program →
-    CertificateFits m.cert → Spells (code_text m.program) m.program → IsTextOf (text_of m.cert) m.cert →
-    AreShort m.program m.cert → Passes f m.program m.cert → IsSound f m.program m.cert.errors →
-    (c : Candidate) (p : Passing) → r ≡ Ok (Found c p) → Serves f c p
-found_serves f m (Ok (AllFailed fails)) h fits fit spelled text short passes sound c p e = absurd h
-found_serves f m (Err why) h fits fit spelled text short passes sound c p e = absurd h
-found_serves f m (Ok (Found d o)) h fits fit spelled text short passes sound c p e =
-    let serves : Serves f d o =
-    (let program = program_is f o m.program fits h.program in
-    let certificate = certificate_is f d.length o m.cert fit h.certificate in
-    record {
-      spelled = subst (λ (q : Code). Spells (code_text q) q) program spelled;
-      text = subst (λ (k : Certificate). IsTextOf (text_of k) k) certificate text;
-      short = subst (λ (k : Certificate). AreShort (made_program f o) k) certificate
-          (subst (λ (q : Code). AreShort q m.cert) program short);
-      passes = subst (λ (k : Certificate). Passes f (made_program f o) k) certificate
-          (subst (λ (q : Code). Passes f q m.cert) program passes);
-      sound = subst (λ (k : Certificate). IsSound f (made_program f o) k.errors) certificate
-          (subst (λ (q : Code). IsSound f q m.cert.errors) program sound);
-    }) in
-    let found : Found d o ≡ Found c p = cc in
-    found_same d c o p found serves
-  where
-    found_same : (d c : Candidate) (o p : Passing) → Found d o ≡ Found c p → Serves f d o → Serves f c p
-    found_same d c o p e h =
-        let first : d ≡ c = cc in
-        let second : o ≡ p = cc in
-        subst (λ c. Serves f c p) first (subst (λ p. Serves f d p) second h)
-
 pub made_serves : (f : Filter) (m : Made) → IsFoundIn f m (found f) → CodeFits m.program → CertificateFits m.cert →
-    Spells (code_text m.program) m.program → IsTextOf (text_of m.cert) m.cert → AreShort m.program m.cert →
-    Passes f m.program m.cert → IsSound f m.program m.cert.errors → IsServed f
-made_serves f m h fits fit spelled text short passes sound c p e =
-    found_serves f m (found f) h fits fit spelled text short passes sound c p e
+    Serves f m.program m.cert → IsServed f
+made_serves f m h fits fit serves = found_holds f (λ q k. Serves f q k) m (found f) h fits fit serves
 
 pub where_short : {E : Type 0} (result : Result Answer E) (S P : Type 0) → IfOk result (λ _. S) → (S → P) →
     WhereDone result P

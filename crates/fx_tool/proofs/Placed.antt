@@ -1,16 +1,14 @@
 -- Files that are placed one after another.
-use Rattle.std.proofs.Common.{◌≡◌, ◌⊎◌, inl, inr, ◌∙◌, ℕ, zero, suc, ◌+◌, ◌≤◌, List, [], ◌∷◌, length, take, Option, Some, None}
-use Rattle.std.proofs.Common.{Result, Ok, Err, OnOk, OnErr, refl, sym, ap, ap₂, subst, arith, Bor, map, drop, ◌-◌, ◌<◌}
-use Rattle.std.proofs.Common.{String, Global, slice_index_or}
+use Rattle.std.proofs.Common.{◌≡◌, ◌⊎◌, inl, inr, ◌∙◌, ℕ, suc, List, [], ◌∷◌, length, take, Option}
+use Rattle.std.proofs.Common.{Result, Ok, Err, OnOk, refl, sym, ap, ap₂, subst, arith, Bor, map, drop, ◌-◌, ◌<◌}
+use Rattle.std.proofs.Common.{String, Global, slice_index_or, Some, None}
 use Rattle.std.proofs.Math.Seq.{take-length}
 use Rattle.std.specs.String.{string_bytes}
-use Rattle.std.proofs.Common.{◌++◌, IsTrue, true, false}
-use Rattle.std.proofs.lemmas.List.{append-nil}
-use Rattle.fx_tool.specs.Answer.{Answer, Delivers}
+use Rattle.std.proofs.Common.{IsTrue, true, false}
+use Rattle.fx_tool.specs.Answer.{Answer}
 use Rattle.fx_words.specs.Command.{texts}
 use Rattle.fx_tool.specs.Placing.{DeliversAll}
 use Rattle.fx_tool.specs.Status.{IsBuiltStatus, is_spoken}
-use Rattle.fx_tool.specs.Writing.{GrowsBy}
 use Rattle.fx_tool.specs.declared.status.Status.{Status}
 use Rattle.fx_tool.specs.declared.status.Status.TheVariants.{ReadFault, WriteFault}
 use Rattle.fx_tool.specs.declared.status.Status.TheVariants.{NoMemory as MemoryStatus}
@@ -21,7 +19,9 @@ use Rattle.fx_io.specs.Outside.{Outside, Output, Places}
 use Rattle.fx_io.specs.Shelf.{Files, SameBut}
 use Rattle.fx_io.specs.declared.shelf.IoFault.{IoFault}
 use Rattle.fx_io.specs.declared.shelf.IoFault.TheVariants.{Failed, NoMemory}
-use Rattle.fx_tool.specs.Placing.{ArePlaced, PlacesAll, PlacesNothing, all_placed, name_at, placings, with_placed}
+use Rattle.fx_tool.specs.Placing.{ArePlaced, PlacesAll, all_placed, name_at, placings}
+use Rattle.fx_tool.proofs.Counted.{none_where_no_memory, none_where_ok}
+use Rattle.fx_tool.proofs.WrittenSoFar.{grows_nothing}
 
 -- none was placed
 placed_none : (told : Option Files) → told ≡ all_placed [] told
@@ -69,13 +69,6 @@ go_on name bytes ps failed before middle after e h = record {
   ];
 }
 
-kept_where_ok : {X : Type 0} (before now : ℕ) (result : Result X IoFault) (value : X) → result ≡ Ok value →
-    HasCause before now result → now ≡ before
-kept_where_ok before now result value e h = elim h.kept [
-  | inl same ↦ same
-  | inr failed ↦ cc
-]
-
 pub then_others : (name bytes : List ℕ) (ps : List (List ℕ × List ℕ)) (before middle after : Outside)
     (first rest : Result (Unit {0}) IoFault) → first ≡ Ok tt → Places name bytes before middle first →
     PlacesAll ps middle after rest → PlacesAll ((name, bytes) ∷ ps) before after rest
@@ -83,7 +76,7 @@ then_others name bytes ps before middle after first rest ok one others =
     let placed : middle.files ≡ option_map (λ m. insert m name bytes) before.files =
     subst (λ r. OnOk r (middle.files ≡ option_map (λ m. insert m name bytes) before.files)) ok one.placed in
     let same : middle.place_faults ≡ before.place_faults =
-    kept_where_ok before.place_faults middle.place_faults first tt ok one.cause in
+    none_where_ok before.place_faults middle.place_faults first tt ok one.cause in
     record {
       whole = on_ok rest (after.files ≡ all_placed ps middle.files)
           (after.files ≡ all_placed ((name, bytes) ∷ ps) before.files)
@@ -101,48 +94,6 @@ then_others name bytes ps before middle after first rest ok one others =
     on_ok : (r : Result (Unit {0}) IoFault) (P Q : Type 0) → (P → Q) → OnOk r P → OnOk r Q
     on_ok (Ok x) P Q f h = f h
     on_ok (Err e) P Q f h = tt
-
--- the first fails
-placing_failed : (name bytes : List ℕ) (ps : List (List ℕ × List ℕ)) (before middle : Outside)
-    (fault : IoFault) (first : Result (Unit {0}) IoFault) → first ≡ Err fault → Places name bytes before middle first →
-    (middle.files ≡ all_placed [] before.files)
-    ⊎ ((0 < suc (length ps))
-    × (Rose before.place_faults middle.place_faults × SameBut name (all_placed [] before.files) middle.files))
-placing_failed name bytes ps before middle NoMemory first e one =
-    inl (one.no_memory e ∙ placed_none before.files)
-placing_failed name bytes ps before middle Failed first e one =
-    inr (
-      omega arith,
-      (
-        one.cause.failed e,
-        subst (λ told. SameBut name told middle.files) (placed_none before.files)
-            (subst (λ r. OnErr r (SameBut name before.files middle.files)) e one.failed),
-      ),
-    )
-
-same_fault : {X Y : Type 0} (before now : ℕ) (fault : IoFault) (first : Result X IoFault) (second : Result Y IoFault) →
-    first ≡ Err fault → second ≡ Err fault → HasCause before now first → HasCause before now second
-same_fault before now Failed first second e d h =
-    record { later = h.later; failed = λ f. h.failed e; kept = inr d }
-same_fault before now NoMemory first second e d h = record {
-  later = h.later;
-  failed = λ f. (let no : Err NoMemory ≡ Err Failed = sym d ∙ f in cc);
-  kept = elim h.kept [ inl same ↦ inl same | inr f ↦ (let no : Err NoMemory ≡ Err Failed = sym e ∙ f in cc) ];
-}
-
-pub first_fails : (name bytes : List ℕ) (ps : List (List ℕ × List ℕ)) (before middle : Outside)
-    (fault : IoFault) (first second : Result (Unit {0}) IoFault) → first ≡ Err fault → second ≡ Err fault →
-    Places name bytes before middle first → PlacesAll ((name, bytes) ∷ ps) before middle second
-first_fails name bytes ps before middle fault first second e d one = record {
-  whole = subst (λ r. OnOk r (middle.files ≡ all_placed ((name, bytes) ∷ ps) before.files)) (sym d) tt;
-  files = record { count = 0; files = placing_failed name bytes ps before middle fault first e one };
-  none = λ e. cc;
-  cause = same_fault before.place_faults middle.place_faults fault first second e d one.cause;
-  read_faults = one.read_faults;
-  later = one.later;
-  few = omega (arith, one.few);
-  names = one.names;
-}
 
 -- ---- names and contents as the code has them
 
@@ -178,55 +129,22 @@ places_none names contents outside e =
 
 -- ---- files, then a text
 
-pub delivered : (a : Answer) (ps : List (List ℕ × List ℕ)) (before after : Outside) (out out' : Output)
-    (placed : Result (Unit {0}) IoFault) (status : Status) → placed ≡ Ok tt → PlacesAll ps before after placed →
-    Delivers a status out.told out'.told → (status ≡ ReadFault → ⊥) → IsBuiltStatus status →
-    (status ≡ WriteFault → Rose out.faults out'.faults) → (out'.faults ≡ out.faults) ⊎ (status ≡ WriteFault) →
-    out.faults ≤ out'.faults → DeliversAll a ps before after out out' status
-delivered a ps before after out out' placed status ok h d spoken only fault kept later = record {
-  answer = d;
-  whole = λ e. subst (λ r. OnOk r (after.files ≡ all_placed ps before.files)) ok h.whole;
-  files = h.files;
-  none = h.none;
-  text_last = inl (
-    subst (λ r. OnOk r (after.files ≡ all_placed ps before.files)) ok h.whole,
-    kept_where_ok before.place_faults after.place_faults placed tt ok h.cause,
-  );
-  only = only;
-  spoken = spoken;
-  write_fault = λ e. inr (fault e);
-  kept_places = inl (kept_where_ok before.place_faults after.place_faults placed tt ok h.cause);
-  kept_writes = kept;
-  later_places = h.cause.later;
-  later_writes = later;
-  read_faults = h.read_faults;
-  later = h.later;
-  few = h.few;
-  names = h.names;
-}
-
-grows_nothing : (before : Option (List ℕ)) → GrowsBy [] before before
-grows_nothing None = refl
-grows_nothing (Some t) = ap Some (sym (append-nil t))
-
 -- nothing is put where a placing fails
-pub not_delivered : (a : Answer) (ps : List (List ℕ × List ℕ)) (before after : Outside) (out : Output)
-    (placed : Result (Unit {0}) IoFault) → placed ≡ Err Failed → (WriteFault ≡ a.status → ⊥) →
-    PlacesAll ps before after placed → DeliversAll a ps before after out out WriteFault
-not_delivered a ps before after out placed e spoken h = record {
-  answer = record {
-    which = inr (inr (inl refl));
-    whole = λ e. absurd (spoken e);
-    prefix = (0, grows_nothing out.told);
-  };
-  whole = λ e. absurd (spoken e);
+nothing_put : (a : Answer) (ps : List (List ℕ × List ℕ)) (before after : Outside) (out : Output)
+    (placed : Result (Unit {0}) IoFault) (status : Status) → PlacesAll ps before after placed →
+    (status ≡ a.status → ⊥) → (status ≡ WriteFault) ⊎ (status ≡ MemoryStatus) → IsBuiltStatus status →
+    (status ≡ WriteFault → Rose before.place_faults after.place_faults) →
+    (after.place_faults ≡ before.place_faults) ⊎ (status ≡ WriteFault) → DeliversAll a ps before after out out status
+nothing_put a ps before after out placed status h other which built fault kept = record {
+  answer = record { which = inr (inr which); whole = λ e. absurd (other e); prefix = (0, grows_nothing out.told) };
+  whole = λ e. absurd (other e);
   files = h.files;
   none = h.none;
   text_last = inr refl;
-  only = refl;
-  spoken = λ e. cc;
-  write_fault = λ _. inl (h.cause.failed e);
-  kept_places = inr refl;
+  only = built;
+  spoken = λ e. unread which e;
+  write_fault = λ e. inl (fault e);
+  kept_places = kept;
   kept_writes = inl refl;
   later_places = h.cause.later;
   later_writes = omega arith;
@@ -235,35 +153,23 @@ not_delivered a ps before after out placed e spoken h = record {
   few = h.few;
   names = h.names;
 }
+  where
+    unread : {s : Status} → (s ≡ WriteFault) ⊎ (s ≡ MemoryStatus) → s ≡ ReadFault → ⊥
+    unread (inl w) e = let no : WriteFault ≡ ReadFault = sym w ∙ e in cc
+    unread (inr m) e = let no : MemoryStatus ≡ ReadFault = sym m ∙ e in cc
+
+pub not_delivered : (a : Answer) (ps : List (List ℕ × List ℕ)) (before after : Outside) (out : Output)
+    (placed : Result (Unit {0}) IoFault) → placed ≡ Err Failed → (WriteFault ≡ a.status → ⊥) →
+    PlacesAll ps before after placed → DeliversAll a ps before after out out WriteFault
+not_delivered a ps before after out placed e other h =
+    nothing_put a ps before after out placed WriteFault h other (inl refl) refl (λ _. h.cause.failed e) (inr refl)
 
 pub not_delivered_memory : (a : Answer) (ps : List (List ℕ × List ℕ)) (before after : Outside) (out : Output)
     (placed : Result (Unit {0}) IoFault) → placed ≡ Err NoMemory → (MemoryStatus ≡ a.status → ⊥) →
     PlacesAll ps before after placed → DeliversAll a ps before after out out MemoryStatus
-not_delivered_memory a ps before after out placed e spoken h = record {
-  answer = record {
-    which = inr (inr (inr refl));
-    whole = λ e. absurd (spoken e);
-    prefix = (0, grows_nothing out.told);
-  };
-  whole = λ e. absurd (spoken e);
-  files = h.files;
-  none = h.none;
-  text_last = inr refl;
-  only = refl;
-  spoken = λ e. cc;
-  write_fault = λ e. cc;
-  kept_places = elim h.cause.kept [
-    | inl same ↦ inl same
-    | inr f ↦ (let no : Err NoMemory ≡ Err Failed = sym e ∙ f in cc)
-  ];
-  kept_writes = inl refl;
-  later_places = h.cause.later;
-  later_writes = omega arith;
-  read_faults = h.read_faults;
-  later = h.later;
-  few = h.few;
-  names = h.names;
-}
+not_delivered_memory a ps before after out placed e other h =
+    nothing_put a ps before after out placed MemoryStatus h other (inr refl) refl (λ w. cc)
+    (inl (none_where_no_memory before.place_faults after.place_faults placed e h.cause))
 
 -- an answer with a text of its own is no fault
 pub spoken_text : (a : Answer) (s : Status) → IsTrue (is_spoken s) → a.status ≡ s →

@@ -1,5 +1,5 @@
 -- The files that words read which are written out.
-use Rattle.std.proofs.Common.{◌≡◌, codes, List, [], ◌∷◌, refl}
+use Rattle.std.proofs.Common.{◌≡◌, codes, [], ◌∷◌, refl}
 use Rattle.fx_words.specs.Command.{plain_of, verb_in}
 use Rattle.fx_words.specs.Words.{command_of}
 use Rattle.fx_tool.specs.Running.{reads_to}

@@ -1,7 +1,6 @@
 -- Two files that are placed: three names that fit are all different, so each file holds its own content.
-use Rattle.std.proofs.Common.{◌≡◌, inl, inr, ◌∙◌, ℕ, Bool, true, false, cond, not, List, [], ◌∷◌, Option, Some, refl, sym, ap}
-use Rattle.std.proofs.Common.{arith, length}
-use Rattle.std.proofs.Common.{◌&&◌, ◌||◌, bytes_eq}
+use Rattle.std.proofs.Common.{◌≡◌, inl, inr, ◌∙◌, ℕ, Bool, true, false, cond, not, List, [], ◌∷◌, Some, refl}
+use Rattle.std.proofs.Common.{arith, length, ◌&&◌, ◌||◌, bytes_eq, sym, ap}
 use Rattle.std.proofs.lemmas.Bool.{cases_Bool, eqb-true}
 use Rattle.std.proofs.lemmas.Cmp.{nat_list_cmp_total}
 use Rattle.std.proofs.lemmas.Map.Text.{is_eq-slice_cmp}

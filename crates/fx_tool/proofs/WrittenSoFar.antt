@@ -1,10 +1,15 @@
 -- A text that is put piece by piece.
-use Rattle.std.proofs.Common.{◌≡◌, ℕ, ◌+◌, ◌-◌, ◌≤◌, List, ◌++◌, length, take, drop, arith, ap, sym, ◌∙◌, subst}
-use Rattle.std.proofs.Common.{append_assoc, Option, Some, None}
+use Rattle.std.proofs.Common.{◌≡◌, ℕ, ◌+◌, ◌-◌, ◌≤◌, List, [], ◌++◌, length, take, drop, arith, ap, sym, ◌∙◌, subst}
+use Rattle.std.proofs.Common.{append_assoc, Option, Some, None, refl}
 use Rattle.std.specs.Option.{option_map}
 use Rattle.std.proofs.Math.Seq.{take-add}
-use Rattle.std.proofs.lemmas.List.{length-drop, drop-drop, take_all}
+use Rattle.std.proofs.lemmas.List.{append-nil, length-drop, drop-drop, take_all}
 use Rattle.fx_tool.specs.Writing.{GrowsBy}
+
+-- nothing was put
+pub grows_nothing : (before : Option (List ℕ)) → GrowsBy [] before before
+grows_nothing None = refl
+grows_nothing (Some t) = ap Some (sym (append-nil t))
 
 -- the bytes before the rest were put
 pub record IsPut (text rest : List ℕ) (before now : Option (List ℕ)) : Type 0 where

@@ -4,6 +4,7 @@ pub mod CheckCauses
 pub mod Ending
 pub mod Gain
 pub mod Judgement
+pub mod Large
 pub mod Made
 pub mod Make
 pub mod Operand

@@ -1,5 +1,5 @@
 -- The program and the certificate that are made of rows that pass, with their bounds.
-use Rattle.std.specs.Prelude.{ℕ, zero, suc, ◌+◌, ◌-◌, ◌^◌, nat_lt, cond, pos, List, [], ◌∷◌, length}
+use Rattle.std.specs.Prelude.{ℕ, zero, suc, ◌+◌, ◌-◌, ◌^◌, nat_lt, cond, pos, [], ◌∷◌, length}
 use Rattle.fx_math.specs.Sums.{joined}
 use Rattle.fx_math.specs.declared.words.TheConstants.{LEAST_WIDTH}
 use Rattle.fx_files.specs.Filter.{Filter}

@@ -34,34 +34,34 @@ use Rattle.fx_tool.specs.declared.status.Status.TheVariants.{Done, NoDesign, Unb
 
 -- ---- the plan
 
--- what is made, program before certificate
+-- a design, with its program and its certificate, which are placed in this order
+abbrev pub design_placed : ℕ → ℕ → ℕ → Code → Certificate → Answer
+design_placed guard fraction moments p c = record {
+  status = Done;
+  placed = code_text p ∷ text_of c ∷ [];
+  text = design_lines guard fraction moments c.errors;
+}
+
+-- what is made
 abbrev pub files_of : Made → Answer
-files_of m = record {
-  status = Done;
-  placed = code_text m.program ∷ text_of m.cert ∷ [];
-  text = design_lines m.guard m.fraction m.length m.cert.errors;
-}
+files_of m = design_placed m.guard m.fraction m.length m.program m.cert
 
--- the files of the first candidate that passes, program before certificate
+-- what is made of a candidate that passes
 abbrev pub placed_for : Filter → Candidate → Passing → Answer
-placed_for f c p = record {
-  status = Done;
-  placed = code_text (made_program f p) ∷ text_of (made_certificate f c.length p) ∷ [];
-  text = design_lines c.guard c.fraction c.length (made_certificate f c.length p).errors;
-}
+placed_for f c p = design_placed c.guard c.fraction c.length (made_program f p) (made_certificate f c.length p)
 
--- or the failure of each
-abbrev pub of_search : Filter → Progress → Answer
-of_search f (AllFailed fails) = says NoDesign (no_design_lines fails)
-of_search f (Found c p) = placed_for f c p
+-- what is told of the first candidate that passes, or the failure of each
+abbrev pub of_search : (Candidate → Passing → Answer) → Progress → Answer
+of_search tell (AllFailed fails) = says NoDesign (no_design_lines fails)
+of_search tell (Found c p) = tell c p
 
 -- or why there is no structure
-abbrev pub of_found : Filter → Result Progress StructureFault → Answer
-of_found f (Ok p) = of_search f p
-of_found f (Err why) = says Unbuildable (structure_fault_line why)
+abbrev pub of_found : (Candidate → Passing → Answer) → Result Progress StructureFault → Answer
+of_found tell (Ok p) = of_search tell p
+of_found tell (Err why) = says Unbuildable (structure_fault_line why)
 
 unfoldable pub made_answer : Filter → Answer
-made_answer f = of_found f (found f)
+made_answer f = of_found (λ c p. placed_for f c p) (found f)
 
 -- the filter's files are made, or its first fault is told
 abbrev pub made_of_bytes : Result Filter FilterFault → Answer
@@ -77,16 +77,21 @@ make_plan = Reads (λ filter. Ends (made_of_bytes (filter_of_bytes filter)))
 abbrev pub AreShort : Code → Certificate → Type 0
 AreShort p c = (length (code_text p) ≤ LONGEST_FILE) × (length (text_of c) ≤ LONGEST_FILE)
 
--- what is made is a whole program and a certificate, which pass for the filter, so that the program is sound for it
-pub record Serves (f : Filter) (c : Candidate) (p : Passing) : Type 0 where
-  pub spelled : Spells (code_text (made_program f p)) (made_program f p)
-  pub text : IsTextOf (text_of (made_certificate f c.length p)) (made_certificate f c.length p)
-  pub short : AreShort (made_program f p) (made_certificate f c.length p)
-  pub passes : Passes f (made_program f p) (made_certificate f c.length p)
-  pub sound : IsSound f (made_program f p) (made_certificate f c.length p).errors
+-- a whole program and a certificate, which pass for the filter, so that the program is sound for it
+pub record Serves (f : Filter) (p : Code) (c : Certificate) : Type 0 where
+  pub spelled : Spells (code_text p) p
+  pub text : IsTextOf (text_of c) c
+  pub short : AreShort p c
+  pub passes : Passes f p c
+  pub sound : IsSound f p c.errors
+
+-- P holds of what is made of the first candidate that passes
+abbrev pub OfFirst : Filter → (Code → Certificate → Type 0) → Type 0
+OfFirst f P =
+    (c : Candidate) (p : Passing) → found f ≡ Ok (Found c p) → P (made_program f p) (made_certificate f c.length p)
 
 abbrev pub IsServed : Filter → Type 0
-IsServed f = (c : Candidate) (p : Passing) → found f ≡ Ok (Found c p) → Serves f c p
+IsServed f = OfFirst f (λ p c. Serves f p c)
 
 -- the same of a filter's bytes
 abbrev pub FilterIsServed : List ℕ → Type 0
@@ -94,8 +99,8 @@ FilterIsServed bytes = IsOkAnd (filter_of_bytes bytes) IsServed
 
 -- ---- status 0
 
--- The three files, as the run leaves them, are those of a filter and of the program and the certificate that are made of
--- the first candidate that passes for it: all inequalities hold, the program is sound for the filter with the
+-- The three files, as the run leaves them, are those of a filter and of the program and the certificate that are made
+-- of the first candidate that passes for it: all inequalities hold, the program is sound for the filter with the
 -- certificate's errors, `check` of the files ends with status 0, and the design and its errors were put.
 pub record Makes (files : Files) (filter_name code_name certificate_name : List ℕ)
     (before after : Option (List ℕ)) : Type 0 where

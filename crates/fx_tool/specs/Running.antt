@@ -1,6 +1,6 @@
 -- What a run of a command line promises.
-use Rattle.std.specs.Prelude.{◌≡◌, ◌⊎◌, ℕ, ◌+◌, ◌≤◌, List, [], ◌∷◌, ◌++◌, codes, take, length, Option, Some, None, Result}
-use Rattle.std.specs.Prelude.{IsSomeAnd, ⊤}
+use Rattle.std.specs.Prelude.{◌≡◌, ◌⊎◌, ℕ, ◌+◌, ◌≤◌, List, [], ◌∷◌, ◌++◌, codes, take, length, Option, Some, None}
+use Rattle.std.specs.Prelude.{Result, IsSomeAnd, ⊤}
 use Rattle.fx_io.specs.Causes.{Rose}
 use Rattle.fx_io.specs.Outside.{Outside, Output}
 use Rattle.fx_io.specs.Shelf.{Files, KeepsNames}
@@ -10,6 +10,7 @@ use Rattle.fx_tool.specs.Check.{check_plan, FilesAreSound, Headline}
 use Rattle.fx_words.specs.Command.{Command, operands_of, targets_of}
 use Rattle.fx_words.specs.Words.{command_of}
 use Rattle.fx_tool.specs.Gain.{gain_plan, FileEncloses, Gains}
+use Rattle.fx_tool.specs.Large.{large_plan, operand_number, Larges, NumberIsServed}
 use Rattle.fx_tool.specs.Make.{make_plan, FilterIsServed, Makes}
 use Rattle.fx_tool.specs.Placing.{ArePlaced, PlacesNothing, placings, with_placed}
 use Rattle.fx_tool.specs.Plan.{Plan, Ends, answer_by, plan_calls, Follows, MayRead, OfAnswer, WhereTold}
@@ -19,7 +20,7 @@ use Rattle.fx_tool.specs.Simulate.{simulate_plan, Simulates}
 use Rattle.fx_tool.specs.Status.{IsBuiltStatus}
 use Rattle.fx_tool.specs.Writing.{Grows}
 use Rattle.fx_words.specs.declared.command.Verb.{Verb}
-use Rattle.fx_words.specs.declared.command.Verb.TheVariants.{Check, Gain, Make, Report, Show, Simulate}
+use Rattle.fx_words.specs.declared.command.Verb.TheVariants.{Check, Gain, Large, Make, Report, Show, Simulate}
 use Rattle.fx_tool.specs.declared.judgement.Detail.TheVariants.{Brief, Full}
 use Rattle.fx_words.specs.declared.operand.Operand.{Operand}
 use Rattle.fx_tool.specs.declared.status.Status.{Status}
@@ -31,6 +32,7 @@ use Rattle.fx_tool.specs.declared.status.Status.TheVariants.{Done, Usage, ReadFa
 abbrev pub plan_of : Verb → List (List ℕ) → Plan
 plan_of Check names = check_plan Brief
 plan_of Gain names = gain_plan
+plan_of Large names = large_plan names
 plan_of Make names = make_plan
 plan_of Report names = check_plan Full
 plan_of Show names = show_plan
@@ -40,6 +42,7 @@ plan_of Simulate names = simulate_plan
 abbrev pub Establishes : Verb → List (List ℕ) → Option Files → Type 0
 Establishes Check (filter ∷ code ∷ cert ∷ _) told = FilesAreSound told filter code cert
 Establishes Gain (filter ∷ _) told = FileEncloses told filter
+Establishes Large names told = NumberIsServed (operand_number names)
 Establishes Make (filter ∷ _) told = Has told filter FilterIsServed
 Establishes Report (filter ∷ code ∷ cert ∷ _) told = FilesAreSound told filter code cert
 Establishes _ _ told = ⊤
@@ -48,6 +51,7 @@ Establishes _ _ told = ⊤
 abbrev pub Claims : Verb → List (List ℕ) → Files → Option (List ℕ) → Option (List ℕ) → Type 0
 Claims Check (filter ∷ code ∷ cert ∷ _) files before after = Headline Brief files filter code cert before after
 Claims Gain (filter ∷ _) files before after = Gains files filter before after
+Claims Large names files before after = Larges (operand_number names) before after
 Claims Make (filter ∷ code ∷ cert ∷ _) files before after = Makes files filter code cert before after
 Claims Report (filter ∷ code ∷ cert ∷ _) files before after = Headline Full files filter code cert before after
 Claims Show (filter ∷ _) files before after = Shows files filter before after
@@ -56,7 +60,7 @@ Claims _ _ files before after = ⊥
 
 -- ---- what the words ask for, with words that are no command
 
--- all commands that there will be, also those that are not built yet
+-- all commands
 abbrev pub usage_line : List ℕ
 usage_line = codes "usage: fixif check FILTER CODE CERT, make FILTER CODE CERT, simulate CODE SAMPLES, gain FILTER, "
     ++ codes "show FILTER, report FILTER CODE CERT, large NUMBER\n"
@@ -149,8 +153,8 @@ DoneClaims words told told' before after =
     IsSomeAnd (command_of words) (λ c. Claims c.verb c.names files' before after)))
 
 -- What a run gives, and leaves of shelf and output. The status and the text are those of the answer, or a read, a write
--- or memory failed; a fault was counted just where it is the status. Files are read in no more calls than the plan takes,
--- and each is placed in one. The text is put behind all of them, and nothing where one is not placed.
+-- or memory failed; a fault was counted just where it is the status. Files are read in no more calls than the plan
+-- takes, and each is placed in one. The text is put behind all of them, and nothing where one is not placed.
 pub record Leaves (words : List (List ℕ)) (shelf shelf' : Outside) (out out' : Output) (status : Status) : Type 0 where
   pub answer : OfWords words shelf.files (λ a. Delivers a status out.told out'.told)
   pub quiet : status ≡ ReadFault → out'.told ≡ out.told
@@ -171,7 +175,12 @@ pub record Leaves (words : List (List ℕ)) (shelf shelf' : Outside) (out out' :
   pub calls : shelf'.calls ≤ shelf.calls + calls_of words shelf.files + length (targets_to (command_of words))
   pub names : KeepsNames shelf.readable shelf'.readable
 
--- The same, with the files that the answer places; and status 0 keeps what its command claims.
+-- the same, with the files that the answer places
+pub record Answers (words : List (List ℕ)) (shelf shelf' : Outside) (out out' : Output) (status : Status) : Type 0 where
+  pub placed : PlacesAnswer words shelf.files shelf'.files status
+  pub leaves : Leaves words shelf shelf' out out' status
+
+-- the same, and status 0 keeps what its command claims
 pub record Runs (words : List (List ℕ)) (shelf shelf' : Outside) (out out' : Output) (status : Status) : Type 0 where
   pub done : status ≡ Done → DoneClaims words shelf.files shelf'.files out.told out'.told
   pub placed : PlacesAnswer words shelf.files shelf'.files status

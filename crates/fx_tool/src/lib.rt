@@ -7,6 +7,7 @@ mod check;
 mod ending;
 mod gain;
 mod judgement;
+mod large;
 mod make;
 mod operand;
 mod placing;

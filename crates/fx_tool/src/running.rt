@@ -1,6 +1,6 @@
 //! A run of a command line.
-ghost use Rattle.std.specs.Prelude.{◌≡◌, length, option_map, take};
-ghost use Rattle.fx_words.specs.Command.{named, operand_words, operands_of, texts};
+ghost use Rattle.std.specs.Prelude.{◌≡◌, length, option_map, take, IsTrue};
+ghost use Rattle.fx_words.specs.Command.{allows, named, operand_words, operands_of, texts};
 ghost use Rattle.fx_words.specs.Words.{IsWhole};
 ghost use Rattle.fx_tool.specs.Answer.{WhereDone};
 ghost use Rattle.fx_tool.specs.CheckCauses.{
@@ -15,13 +15,12 @@ ghost use Rattle.fx_tool.specs.Running.{
   plan_of,
   reads_to,
   targets_to,
+  Answers,
   CanRead,
   Establishes,
   EstablishesTo,
   EstablishesWords,
   FollowsAsked,
-  Leaves,
-  PlacesAnswer,
   Runs,
 };
 
@@ -29,6 +28,7 @@ use crate::check::check;
 use crate::ending::Ending;
 use crate::gain::gain;
 use crate::judgement::Detail;
+use crate::large::run_large;
 use crate::make::make_files;
 use crate::show::show;
 use crate::simulate::simulate;
@@ -39,7 +39,7 @@ use fx_io::{IoFault, Shelf, Sink};
 use fx_words::{Command, Verb, read_words};
 use std::alloc::Global;
 
-// All commands that there will be, also those that are not built yet.
+// All commands.
 const USAGE: &str =
     "usage: fixif check FILTER CODE CERT, make FILTER CODE CERT, simulate CODE SAMPLES, gain FILTER, \
      show FILTER, report FILTER CODE CERT, large NUMBER\n";
@@ -52,6 +52,7 @@ fn command_ending<S: Shelf>(
     shelf: &mut S,
 ) -> Result<Ending, IoFault>
     requires count { length names.now ≡ length (operand_words verb) }
+    requires allowed { IsTrue (allows verb (texts names.now)) }
     requires readable { MayRead (S.seen shelf.old) (take (length (operands_of verb)) (texts names.now)) }
     ensures follows { Follows (operands_of verb) (texts names.now) (plan_of verb (texts names.now))
         (S.seen shelf.old) (S.seen shelf.new) result }
@@ -69,6 +70,7 @@ fn command_ending<S: Shelf>(
             )
         }
         (Verb::Gain, [filter]) => gain(alloc, filter.as_str(), shelf),
+        (Verb::Large, [number]) => Ok(run_large(alloc, number.as_str())?),
         (Verb::Make, [filter, _, _]) => make_files(alloc, filter.as_str(), shelf),
         (Verb::Report, [filter, code, cert]) => {
             check(
@@ -118,9 +120,8 @@ fn targets(asked: Option<Command<'_>>) -> &[String]
 // Runs a command line, and gives the answer of its words and files.
 fn answer<S: Shelf, K: Sink>(alloc: Global, words: &[String], shelf: &mut S, out: &mut K) -> Status
     requires { CanRead (S.seen shelf.old) (texts words.now) }
-    ensures leaves { Leaves (texts words.now) (S.seen shelf.old) (S.seen shelf.new)
+    ensures answers { Answers (texts words.now) (S.seen shelf.old) (S.seen shelf.new)
         (K.seen out.old) (K.seen out.new) result }
-    ensures placed { PlacesAnswer (texts words.now) (S.seen shelf.old).files (S.seen shelf.new).files result }
     ensures establishes { result ≡ Status.Done → EstablishesWords (texts words.now) (S.seen shelf.old).files }
 {
     let Ok(asked) = read_words(alloc, words) else {
@@ -143,8 +144,9 @@ fn answer<S: Shelf, K: Sink>(alloc: Global, words: &[String], shelf: &mut S, out
 /// With `Done` of `check` and of `report`: for every list of input words within the filter's bounds, of any length,
 /// every row of the code ends with the exact sum in its accumulator, every stored word lies in its format, and every
 /// output differs from the filter's exact output by at most the certificate's error, which is the one printed. With
-/// `Done` of `make` the same holds of the code and the certificate that it placed. With `Done` of the other commands:
-/// the files were read as what they stand for, and all of that was put.
+/// `Done` of `make` the same holds of the code and the certificate that it placed, and with `Done` of `large` of what
+/// was made for the number's filter. With `Done` of the other commands: the files were read as what they stand for, and
+/// all of that was put.
 pub fn run<S: Shelf, K: Sink>(alloc: Global, words: &[String], shelf: &mut S, out: &mut K) -> Status
     requires { CanRead (S.seen shelf.old) (texts words.now) }
     ensures { Runs (texts words.now) (S.seen shelf.old) (S.seen shelf.new)
@@ -156,9 +158,9 @@ pub fn run<S: Shelf, K: Sink>(alloc: Global, words: &[String], shelf: &mut S, ou
 }
 
 /// A law with nothing to run: when `check` ends with which status, where the files before are there and have at most
-/// `LONGEST_FILE` bytes. 3 comes exactly where the first file is that of no filter, 4 exactly where the second spells no
-/// program, 5 exactly where the third is the text of no certificate, 1 exactly where an inequality fails, and where all
-/// hold, 0 with the lines of the certificate's errors.
+/// `LONGEST_FILE` bytes. 3 comes exactly where the first file is that of no filter, 4 exactly where the second spells
+/// no program, 5 exactly where the third is the text of no certificate, 1 exactly where an inequality fails, and where
+/// all hold, 0 with the lines of the certificate's errors.
 pub fn check_ends_by_its_files()
     ensures bad_filter { BadFilterExactly }
     ensures bad_code { BadCodeExactly }

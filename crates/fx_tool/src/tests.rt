@@ -438,6 +438,20 @@ fn answers_faults_of_the_outside(rt: HostRuntime) -> Result<(), Fail> {
     Ok(())
 }
 
+#[test]
+fn runs_the_job_of_a_number(rt: HostRuntime) -> Result<(), Fail> {
+    let table: [Row<'_>; 1] = [(
+        &[],
+        Status::Done,
+        b"large 1\ndesign 8 24 256\nerror 0 0.511027118\nsamples 100000 least 0 greatest 0 sum 0\n",
+    )];
+    assert_eq!(rt;
+        first_wrong(rt.alloc(), &["fixif", "large", "01"], &table)?,
+        None
+    );
+    Ok(())
+}
+
 const USAGE_LINE: &[u8] =
     b"usage: fixif check FILTER CODE CERT, make FILTER CODE CERT, simulate CODE SAMPLES, gain FILTER, \
       show FILTER, report FILTER CODE CERT, large NUMBER\n";
@@ -449,7 +463,7 @@ fn other_words_are_no_command(rt: HostRuntime) -> Result<(), Fail> {
         ["fixif", "show"].as_slice(),
         &["fixif", "show", "-f"],
         &["fixif", "show", "f", "f"],
-        &["fixif", "large", "1"],
+        &["fixif", "large", "4294967296"],
         &["fixif", "make", "f", "c", "c"],
         &["fixif", "make", "f", "f", "k"],
         &[],

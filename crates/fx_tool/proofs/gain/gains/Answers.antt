@@ -16,7 +16,8 @@ returns-in_ok-gain_lines-in-Ok-clause-answer c =
 pub returns-in_ok-no_length_lines-in-Err-NoLength-clause-answer :
     goal.returns-in_ok-no_length_lines-in-Err-NoLength-clause-answer
 returns-in_ok-no_length_lines-in-Err-NoLength-clause-answer c =
-    none_found c.args.filter.now c.in-Err-NoLength.fails (subst (FailsSo (original_net c.args.filter.now) c.args.filter.now)
-    c.in-Err-NoLength.field-0-is c.in-Err-NoLength.ensures.fails)
+    none_found c.args.filter.now c.in-Err-NoLength.fails
+    (subst (FailsSo (original_net c.args.filter.now) c.args.filter.now) c.in-Err-NoLength.field-0-is
+    c.in-Err-NoLength.ensures.fails)
     ∙ ap (λ fails. says NoDesign (no_length_lines fails)) (sym c.list.ensures)
     ∙ ap (says NoDesign) (sym c.in_ok-no_length_lines-in-Err-NoLength.ensures) ∙ sym c.new-in-Err-NoLength.ensures

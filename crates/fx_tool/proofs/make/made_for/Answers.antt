@@ -1,4 +1,4 @@
-use Rattle.std.proofs.Common.{◌∙◌, ◌≡◌, refl, sym, ap, subst, Ok, Err, Result, IfOk, arith, rules}
+use Rattle.std.proofs.Common.{◌∙◌, ◌≡◌, refl, sym, ap, subst, Err, IfOk, rules}
 use Rattle.fx_make.specs.Made.{Makes}
 use Rattle.fx_block.specs.Passes.{Passes}
 use Rattle.fx_code.specs.Code.{IsWhole}
@@ -18,12 +18,18 @@ returns-in-Ok-clause-answer c =
 pub returns-in-Ok-clause-served : goal.returns-in-Ok-clause-served
 returns-in-Ok-clause-served c =
     let found = subst (λ r. Makes c.args.filter.now r) c.in-Ok.is c.make.ensures.value in
-    let passes = subst (λ r. IfOk r (λ m. Passes c.args.filter.now m.program m.cert)) c.in-Ok.is c.make.ensures.passes in
+    let passes = subst (λ r. IfOk r (λ m. Passes c.args.filter.now m.program m.cert)) c.in-Ok.is
+    c.make.ensures.passes in
     let whole = subst (λ r. IfOk r (λ m. IsWhole m.program)) c.in-Ok.is c.make.ensures.whole in
     where_short c.files_of.result (AreShort c.in-Ok.made.program c.in-Ok.made.cert) _ c.files_of.ensures.short (λ short.
     made_serves c.args.filter.now c.in-Ok.made found c.programs_fit.ensures c.certificates_fit.ensures
-    c.written_code_is_spelled.ensures.spelled (record { text = refl; fits = c.certificates_fit.ensures }) short passes
-    (c.inequalities_make_sound.ensures.sound whole passes))
+    (record {
+      spelled = c.written_code_is_spelled.ensures.spelled;
+      text = record { text = refl; fits = c.certificates_fit.ensures };
+      short = short;
+      passes = passes;
+      sound = c.inequalities_make_sound.ensures.sound whole passes;
+    }))
 
 pub returns-in_ok-structure_fault_line-in-Err-Unbuildable-clause-answer :
     goal.returns-in_ok-structure_fault_line-in-Err-Unbuildable-clause-answer

@@ -10,7 +10,8 @@ returns-in_ok-place-in-len1-up-contents g t c =
     let names = c.args.names.now in
     let contents = c.args.contents.now in
     let is = first_placing names contents _ _ c.as_str.result.now
-    (c.as_str.ensures.value ∙ ap (λ (s : String Global). string_bytes s) c.name-item.is) c.in-len1-up.len_at_least c.in-len1-up-contents.len_at_least in
+    (c.as_str.ensures.value ∙ ap (λ (s : String Global). string_bytes s) c.name-item.is) c.in-len1-up.len_at_least
+    c.in-len1-up-contents.len_at_least in
     subst (λ ps. PlacesAll ps (g.S.Shelf.seen c.args.shelf.now) (g.S.Shelf.seen c.place_all.new.shelf)
     c.place_all.result) (sym is)
     (then_others _ _ (placings (texts (take (length names - 1) (drop 1 names)))

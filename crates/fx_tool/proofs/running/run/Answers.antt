@@ -9,10 +9,11 @@ returns g c =
     let after = g.S.Shelf.seen c.answer.new.shelf in
     let out = g.K.Sink.seen c.args.out.now in
     let out' = g.K.Sink.seen c.answer.new.out in
+    let answers = c.answer.ensures.answers in
     record {
-      done = λ h. done_claims c.certificate_is_read_exactly.ensures c.none_fails_where_all_hold.ensures words before.files after.files c.answer.result
-          out.told out'.told h (c.answer.ensures.establishes h) c.answer.ensures.leaves.answer
-          c.answer.ensures.placed;
-      placed = c.answer.ensures.placed;
-      leaves = c.answer.ensures.leaves;
+      done = λ h. done_claims c.certificate_is_read_exactly.ensures c.none_fails_where_all_hold.ensures words
+          before.files after.files c.answer.result out.told out'.told h (c.answer.ensures.establishes h)
+          answers.leaves.answer answers.placed;
+      placed = answers.placed;
+      leaves = answers.leaves;
     }
