@@ -27,7 +27,7 @@ use Rattle.fx_tool.specs.Gain.{by_serving, gained, gains, serving}
 use Rattle.fx_tool.specs.Large.{large_answer, number_filter, operand_number, run_for}
 use Rattle.fx_tool.specs.Judgement.{by_failure, judged, reported, told}
 use Rattle.fx_tool.specs.Operand.{too_long}
-use Rattle.fx_tool.specs.Plan.{Plan, Ends, Reads, answer_by, OfAnswer, WhereTold}
+use Rattle.fx_tool.specs.Plan.{Plan, Ends, Reads, answer_by, OfAnswer, OnContents, WhereTold}
 use Rattle.fx_make.specs.Candidates.{Candidate, Passing}
 use Rattle.fx_make.specs.Made.{found}
 use Rattle.fx_make.specs.Search.{Progress}
@@ -171,7 +171,8 @@ plan_usual (o ∷ os) (name ∷ names) (Reads next) files h =
 of_plan : (os : List Operand) (names : List (List ℕ)) (plan : Plan) (told : Option Files) (P : Answer →
     Type 0) → AllSpoken plan → ((a : Answer) → IsUsual a → P a) → OfAnswer os names plan told P
 of_plan os names (Ends a) told P h p = p a (inl h)
-of_plan os names (Reads next) None P h p = tt
+of_plan [] names (Reads next) None P h p = p absent (inr refl)
+of_plan (o ∷ os) names (Reads next) None P h p = inl (p (too_long o) (inl (long_spoken o)))
 of_plan os names (Reads next) (Some files) P h p = p _ (plan_usual os names (Reads next) files h)
 
 -- ---- faults before the text
@@ -331,10 +332,18 @@ answers_fault words asked shelf shelf' out result fault is follows e =
 
 -- ---- what a run leaves that comes to its text
 
+on_contents : (os : List Operand) (plan : Plan) (P Q : Answer → Type 0) → ((a : Answer) → P a → Q a) →
+    OnContents os plan P → OnContents os plan Q
+on_contents os (Ends a) P Q f h = f a h
+on_contents [] (Reads next) P Q f h = f absent h
+on_contents (o ∷ os) (Reads next) P Q f (inl h) = inl (f (too_long o) h)
+on_contents (o ∷ os) (Reads next) P Q f (inr (content, short, h)) =
+    inr (content, short, on_contents os (next content) P Q f h)
+
 of_answer : (os : List Operand) (names : List (List ℕ)) (plan : Plan) (told : Option Files) (P Q : Answer → Type 0) →
     ((a : Answer) → P a → Q a) → OfAnswer os names plan told P → OfAnswer os names plan told Q
 of_answer os names (Ends a) told P Q f h = f a h
-of_answer os names (Reads next) None P Q f h = tt
+of_answer os names (Reads next) None P Q f h = on_contents os (Reads next) P Q f h
 of_answer os names (Reads next) (Some files) P Q f h = f _ h
 
 -- the answer of an ending is that of the words

@@ -1,6 +1,6 @@
 -- What follows a plan behind the first file, follows the plan from that file on.
-use Rattle.std.proofs.Common.{◌≡◌, ◌∙◌, ℕ, ◌+◌, ◌≤◌, nat_le, Bool, true, false, cond, List, ◌∷◌, length}
-use Rattle.std.proofs.Common.{Option, Some, None, IsSomeAnd, Result, Ok, Err, IfOk, refl, sym, ap, subst, arith}
+use Rattle.std.proofs.Common.{◌≡◌, ◌∙◌, inl, inr, ℕ, ◌+◌, ◌≤◌, nat_le, Bool, true, false, cond, List, ◌∷◌, length}
+use Rattle.std.proofs.Common.{Option, Some, None, IsSomeAnd, IfSome, Result, Ok, Err, IfOk, refl, sym, ap, subst, arith}
 use Rattle.std.specs.FinMap.{get}
 use Rattle.fx_io.specs.Causes.{HasCause}
 use Rattle.fx_io.specs.Outside.{Outside, OnlyReads}
@@ -9,7 +9,7 @@ use Rattle.fx_io.specs.declared.shelf.IoFault.{IoFault}
 use Rattle.fx_tool.specs.Answer.{Answer, absent}
 use Rattle.fx_words.specs.Operand.{limit_of}
 use Rattle.fx_tool.specs.Operand.{too_long}
-use Rattle.fx_tool.specs.Plan.{Plan, Ends, Reads, by_content, answer_by, calls_by, most_calls, plan_calls, OfAnswer}
+use Rattle.fx_tool.specs.Plan.{Plan, Ends, Reads, by_content, answer_by, calls_by, most_calls, plan_calls, OfAnswer, OnContents}
 use Rattle.fx_tool.specs.Plan.{Follows}
 use Rattle.fx_tool.specs.Reading.{Has, HoldsContent, read_calls}
 use Rattle.fx_words.specs.declared.operand.Operand.{Operand}
@@ -51,23 +51,29 @@ pub told_answer : (os : List Operand) (names : List (List ℕ)) (plan : Plan) (f
 told_answer os names (Ends a) files P h = h
 told_answer os names (Reads next) files P h = h
 
+on_contents : (os : List Operand) (names : List (List ℕ)) (plan : Plan) (P : Answer → Type 0) →
+    OfAnswer os names plan None P → OnContents os plan P
+on_contents os names (Ends a) P h = h
+on_contents os names (Reads next) P h = h
+
 answer_goes_on : (o : Operand) (os : List Operand) (name : List ℕ) (names : List (List ℕ)) (next : List ℕ → Plan)
-    (told : Option Files) (bytes : List ℕ) (answer : Answer) →
+    (told : Option Files) (bytes : List ℕ) (answer : Answer) → length bytes ≤ limit_of o →
     Has told name (HoldsContent (limit_of o) (Some bytes)) → OfAnswer os names (next bytes) told (λ a. a ≡ answer) →
     OfAnswer (o ∷ os) (name ∷ names) (Reads next) told (λ a. a ≡ answer)
-answer_goes_on o os name names next None bytes answer there h = tt
-answer_goes_on o os name names next (Some files) bytes answer there h =
+answer_goes_on o os name names next None bytes answer short there h =
+    inr (bytes, short, on_contents os names (next bytes) (λ a. a ≡ answer) h)
+answer_goes_on o os name names next (Some files) bytes answer short there h =
     goes_on o absent (too_long o) (λ content. answer_by os names (next content) files) bytes (get files name) there
     ∙ told_answer os names (next bytes) files (λ a. a ≡ answer) h
 
 if_answer_goes_on : (o : Operand) (os : List Operand) (name : List ℕ) (names : List (List ℕ)) (next : List ℕ → Plan)
-    (told : Option Files) (bytes : List ℕ) (result : Result Answer IoFault) →
+    (told : Option Files) (bytes : List ℕ) (result : Result Answer IoFault) → length bytes ≤ limit_of o →
     Has told name (HoldsContent (limit_of o) (Some bytes)) →
     IfOk result (λ answer. OfAnswer os names (next bytes) told (λ a. a ≡ answer)) →
     IfOk result (λ answer. OfAnswer (o ∷ os) (name ∷ names) (Reads next) told (λ a. a ≡ answer))
-if_answer_goes_on o os name names next told bytes (Ok answer) there h =
-    answer_goes_on o os name names next told bytes answer there h
-if_answer_goes_on o os name names next told bytes (Err fault) there h = tt
+if_answer_goes_on o os name names next told bytes (Ok answer) short there h =
+    answer_goes_on o os name names next told bytes answer short there h
+if_answer_goes_on o os name names next told bytes (Err fault) short there h = tt
 
 -- ---- the calls
 
@@ -100,11 +106,13 @@ calls_go_on o os name names next (Some files) bytes there =
 pub after_read : {X : Type 0} (o : Operand) (os : List Operand) (name : List ℕ) (names : List (List ℕ))
     (next : List ℕ → Plan) (before middle now : Outside) (found : Option (List ℕ)) (bytes : List ℕ)
     (read : Result X IoFault) (value : X) (result : Result Answer IoFault) → read ≡ Ok value → found ≡ Some bytes →
+    IfSome found (λ bytes. length bytes ≤ limit_of o) →
     Has before.files name (HoldsContent (limit_of o) found) →
     OnlyReads (read_calls (limit_of o) before.files name) before middle read →
     Follows os names (next bytes) middle now result →
     Follows (o ∷ os) (name ∷ names) (Reads next) before now result
-after_read o os name names next before middle now found bytes read value result ok is there first later =
+after_read o os name names next before middle now found bytes read value result ok is within there first later =
+    let short : length bytes ≤ limit_of o = subst (λ found. IfSome found (λ bytes. length bytes ≤ limit_of o)) is within in
     let there : Has before.files name (HoldsContent (limit_of o) (Some bytes)) =
     subst (λ found. Has before.files name (HoldsContent (limit_of o) found)) is there in
     let calls = calls_go_on o os name names next before.files bytes there in
@@ -113,7 +121,7 @@ after_read o os name names next before middle now found bytes read value result 
     let same : middle.read_faults ≡ before.read_faults =
     none_where_ok before.read_faults middle.read_faults read value ok first.cause in
     record {
-      answer = if_answer_goes_on o os name names next before.files bytes result there
+      answer = if_answer_goes_on o os name names next before.files bytes result short there
           (subst (λ told. IfOk result (λ answer. OfAnswer os names (next bytes) told (λ a. a ≡ answer)))
           first.files later.answer);
       shelf = record {

@@ -1,5 +1,5 @@
 -- What a command does with the contents of its files: it reads one after another, and then has its answer.
-use Rattle.std.specs.Prelude.{◌≡◌, ℕ, ◌+◌, nat_le, if◌then◌else◌, List, [], ◌∷◌, length, Option, Some, None}
+use Rattle.std.specs.Prelude.{◌≡◌, ◌⊎◌, ℕ, ◌+◌, ◌≤◌, nat_le, if◌then◌else◌, List, [], ◌∷◌, length, Option, Some, None}
 use Rattle.std.specs.Prelude.{Result, IfOk, IsTrue, All, ⊤}
 use Rattle.std.specs.FinMap.{get}
 use Rattle.fx_io.specs.Shelf.{Files}
@@ -59,10 +59,18 @@ abbrev pub WhereTold : Option Files → (Files → Type 0) → Type 0
 WhereTold None P = ⊤
 WhereTold (Some files) P = P files
 
--- P holds of the answer, where the shelf tells its files or none is read
+-- P holds of the answer on some contents, one after another: one is longer than its limit, or within it
+abbrev pub OnContents : List Operand → Plan → (Answer → Type 0) → Type 0
+OnContents os (Ends answer) P = P answer
+OnContents [] (Reads next) P = P absent
+OnContents (o ∷ os) (Reads next) P =
+    P (too_long o) ⊎ ((content : List ℕ) × (length content ≤ limit_of o) × OnContents os (next content) P)
+
+-- P holds of the answer: on the files, where the shelf tells them, and else on some contents
 abbrev pub OfAnswer : List Operand → List (List ℕ) → Plan → Option Files → (Answer → Type 0) → Type 0
 OfAnswer os names (Ends answer) told P = P answer
-OfAnswer os names (Reads next) told P = WhereTold told (λ files. P (answer_by os names (Reads next) files))
+OfAnswer os names (Reads next) None P = OnContents os (Reads next) P
+OfAnswer os names (Reads next) (Some files) P = P (answer_by os names (Reads next) files)
 
 -- each name may be read
 abbrev pub MayRead : Outside → List (List ℕ) → Type 0

@@ -97,7 +97,7 @@ CanRead outside words = MayRead outside (reads_to (command_of words))
 abbrev pub answer_of : List (List ℕ) → Files → Answer
 answer_of words files = let c = command_of words in answer_by (operands_to c) (names_to c) (plan_to c) files
 
--- P holds of the answer, where the shelf tells its files or none is read
+-- P holds of the answer: on the files, where the shelf tells them, and else on some contents
 abbrev pub OfWords : List (List ℕ) → Option Files → (Answer → Type 0) → Type 0
 OfWords words told P = let c = command_of words in OfAnswer (operands_to c) (names_to c) (plan_to c) told P
 

@@ -1,5 +1,5 @@
 //! Reading the files of a command.
-ghost use Rattle.std.specs.Prelude.{◌≡◌, IfOk, IfErr, IsTrue, option_map};
+ghost use Rattle.std.specs.Prelude.{◌≡◌, ◌≤◌, IfOk, IfErr, IfSome, IsTrue, length, option_map};
 ghost use Rattle.fx_io.specs.Outside.{OnlyReads};
 ghost use Rattle.fx_io.specs.declared.shelf.IoFault.TheVariants.{NoMemory};
 ghost use Rattle.fx_words.specs.Operand.{limit_of};
@@ -40,6 +40,8 @@ pub fn read_operand<S: Shelf>(
 
     ensures content { IfOk result (λ r. Has (S.seen shelf.old).files name.now
         (HoldsContent (limit_of operand) (option_map (λ bytes. bytes.items) r))) }
+    ensures short { IfOk result (λ r. IfSome (option_map (λ bytes. bytes.items) r)
+        (λ bytes. length bytes ≤ limit_of operand)) }
     ensures shelf { OnlyReads (read_calls (limit_of operand) (S.seen shelf.old).files name.now)
         (S.seen shelf.old) (S.seen shelf.new) result }
 {

@@ -1,4 +1,4 @@
-ghost use Rattle.std.specs.Prelude.{◌≡◌, ◌<◌, ◌≤◌, ◌+◌, ◌^◌, IsTrue, IfOk, OnOk, min, take, length};
+ghost use Rattle.std.specs.Prelude.{◌≡◌, ◌<◌, ◌≤◌, ◌+◌, ◌^◌, IsTrue, IfOk, IfSome, OnOk, min, take, length};
 ghost use Rattle.std.specs.Bool.{IsFalse};
 ghost use Rattle.std.specs.Option.{option_map};
 ghost use Rattle.fx_io.specs.Outside.{OnlyReads};
@@ -86,6 +86,7 @@ pub fn read_file<S: Shelf>(
 
     ensures content { IfOk result (λ r. Has (S.seen shelf.old).files name.now
         (HoldsContent limit (option_map (λ bytes. bytes.items) r))) }
+    ensures short { IfOk result (λ r. IfSome (option_map (λ bytes. bytes.items) r) (λ bytes. length bytes ≤ limit)) }
     ensures shelf { OnlyReads (read_calls limit (S.seen shelf.old).files name.now)
         (S.seen shelf.old) (S.seen shelf.new) result }
 {

@@ -13,4 +13,4 @@ returns-in-Some g c =
     (option_map (λ bytes. bytes.items) c.in_ok-bytes.field-0) c.deref.result.now
     c.read_operand.result c.in_ok-bytes.field-0 c.with_code.result c.in_ok-bytes.was
     (ap (option_map (λ bytes. bytes.items)) c.in-Some.is ∙ ap Some (sym c.deref.ensures.value))
-    c.in_ok-bytes.ensures.content c.read_operand.ensures.shelf c.with_code.ensures
+    c.in_ok-bytes.ensures.short c.in_ok-bytes.ensures.content c.read_operand.ensures.shelf c.with_code.ensures
