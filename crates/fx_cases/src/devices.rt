@@ -51,16 +51,21 @@ fn each_failed_read_ends_the_run(rt: HostRuntime) -> Result<(), Fail> {
     Ok(())
 }
 
-// The number of the first write of one byte whose failure leaves otherwise than 9 and the bytes before it.
-fn first_put(alloc: Global, job: &Job<'_>) -> Result<Option<usize>, AllocError> {
-    for put in 0..job.text.len() {
-        let faults = [Fault::PutPiece(1), Fault::Put(put as u64 + 1)];
-        let ended = run_on(alloc, job.words, job.files, &faults)?;
-        if !ended.is(Status::WriteFault, &job.text[..put]) {
-            return Ok(Some(put));
+/// The count of bytes before the first write of one piece whose failure leaves otherwise than 9 and these bytes.
+pub fn first_put(alloc: Global, job: &Job<'_>, piece: usize) -> Result<Option<usize>, AllocError> {
+    let piece = piece.max(1);
+    let mut puts: u64 = 0;
+    for before in 0..job.text.len() {
+        if before % piece == 0 {
+            puts = puts.saturating_add(1);
+            let faults = [Fault::PutPiece(piece), Fault::Put(puts)];
+            let ended = run_on(alloc, job.words, job.files, &faults)?;
+            if !ended.is(Status::WriteFault, &job.text[..before]) {
+                return Ok(Some(before));
+            }
         }
     }
-    let faults = [Fault::PutPiece(1), Fault::Put(job.text.len() as u64 + 1)];
+    let faults = [Fault::PutPiece(piece), Fault::Put(puts.saturating_add(1))];
     let ended = run_on(alloc, job.words, job.files, &faults)?;
     Ok(if ended.is(Status::Done, job.text) {
         None
@@ -73,7 +78,7 @@ fn first_put(alloc: Global, job: &Job<'_>) -> Result<Option<usize>, AllocError> 
 fn each_failed_put_leaves_the_bytes_before(rt: HostRuntime) -> Result<(), Fail> {
     assert_eq!(rt; CHECK.text.len(), 29);
     for job in &JOBS {
-        assert_eq!(rt; first_put(rt.alloc(), job)?, None);
+        assert_eq!(rt; first_put(rt.alloc(), job, 1)?, None);
     }
     Ok(())
 }

@@ -93,5 +93,13 @@ pub const SIMULATE: Job<'static> = Job {
     placed: &[],
 };
 
-/// Each of them.
+/// It reads no file. Its words all are 0.
+pub const LARGE: Job<'static> = Job {
+    words: &["fixif", "large", "1"],
+    files: &[],
+    text: b"large 1\ndesign 8 24 256\nerror 0 0.511027118\nsamples 100000 least 0 greatest 0 sum 0\n",
+    placed: &[],
+};
+
+/// Each of those that are quick.
 pub const JOBS: [Job<'static>; 6] = [CHECK, REPORT, MAKE, SHOW, GAIN, SIMULATE];

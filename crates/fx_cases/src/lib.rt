@@ -10,3 +10,5 @@ mod damage;
 mod devices;
 #[cfg(test)]
 mod jobs;
+#[cfg(test)]
+mod numbers;
