@@ -1,4 +1,5 @@
-//! The program: judges certified fixed-point code for linear filters, shows filter files, and runs code on samples.
+//! The program: makes certified fixed-point code for linear filters, judges it, tells what its errors are made of, runs
+//! it on samples, shows filter files and finds how far their outputs go.
 #![tactic(auto)]
 
 ghost use Rattle.fx_words.specs.Command.{texts};
