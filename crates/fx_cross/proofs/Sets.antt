@@ -1,7 +1,7 @@
 -- Which change `set` is.
 use Rattle.std.proofs.Common.{◌≡◌, ℕ, ◌+◌, ◌*◌, ◌<◌, List, get_or, refl, sym, ◌∙◌, ap, subst, unsigned_abs}
 use Rattle.std.proofs.Common.{Bool, true, false}
-use Rattle.std.proofs.lemmas.Bool.{eq-eqb, eqb-true, ne_eqb, cond-true, cond-false, false≢true}
+use Rattle.std.proofs.lemmas.Bool.{eq-eqb, eqb-true, cond-true, false≢true}
 use Rattle.fx_nums.specs.Fraction.{Fraction, zero_fraction, is_zero}
 use Rattle.fx_cross.specs.declared.cell.Cell.{Cell}
 use Rattle.fx_cross.specs.Table.{Table, IsZero, IsNonzero, plain, entry_at, place_at, put}
@@ -12,9 +12,6 @@ use Rattle.fx_cross.proofs.Entries.{is_put}
 
 pub plain_zero : (c : Fraction) → unsigned_abs c.num ≡ 0 → plain c ≡ zero_fraction
 plain_zero c z = cond-true _ _ _ (eq-eqb (unsigned_abs c.num) 0 z)
-
-pub plain_full : (c : Fraction) → (unsigned_abs c.num ≡ 0 → ⊥) → plain c ≡ c
-plain_full c full = cond-false _ _ _ (ne_eqb (unsigned_abs c.num) 0 full)
 
 pub place_is : (rows columns room terms free : ℕ) (places : List ℕ) (cells : List Cell) (t : Table) →
     IsWellLinked rows columns room terms free places cells → table_of rows columns room places cells ≡ t →

@@ -7,7 +7,7 @@ use Rattle.fx_nums.specs.Fraction.{Fraction}
 use Rattle.fx_cross.specs.declared.cell.Cell.{Cell}
 use Rattle.fx_cross.specs.Table.{spot}
 use Rattle.fx_cross.specs.Cells.{row_of, column_of, right_of, down_of, coef_of}
-use Rattle.fx_cross.specs.Lines.{IsLead, AreLinked}
+use Rattle.fx_cross.specs.Lines.{IsLead}
 use Rattle.fx_cross.specs.WellLinked.{IsWellLinked, IsPlaced, IsFree, head_of}
 use Rattle.fx_cross.proofs.Spots.{below_product, spot_inside, spot_set_same, spot_set_other}
 use Rattle.fx_cross.proofs.Splice.{line_put_out, line_same, lead_apart, lead_not_new}
@@ -15,15 +15,6 @@ use Rattle.fx_cross.proofs.Writes.{IsRightSet, IsDownSet, IsCoefSet, IsFreed}
 use Rattle.fx_cross.proofs.Free.{free_take}
 use Rattle.fx_cross.proofs.Facts.{keyed_right, keyed_down, put_right, put_down, count_less, SpotAfter, spot_after}
 use Rattle.fx_cross.proofs.Facts.SpotAfter.{same, other}
-
--- the lines after the leads are written
-relinked_right : (rows room : ℕ) (cells cells1 cells2 : List Cell) (left above r d : ℕ) (place : ℕ → ℕ → ℕ) →
-    IsRightSet cells cells1 left r → IsDownSet cells1 cells2 above d →
-    AreLinked room rows (head_of room) (column_of cells) (right_of cells1) place →
-    AreLinked room rows (head_of room) (column_of cells2) (right_of cells2) place
-relinked_right rows room cells cells1 cells2 left above r d place w v linked =
-    line_same room rows (head_of room) (column_of cells) (right_of cells1) (column_of cells2) (right_of cells2)
-    place linked (λ x. v.column x ∙ w.column x) v.right
 
 -- where some entry has a place there is an entry
 pub some_terms : (rows columns room terms free : ℕ) (places : List ℕ) (cells : List Cell) →

@@ -1,9 +1,8 @@
 -- Digits at the front of a text, and bounds on what they write.
-use Rattle.std.proofs.Common.{◌≡◌, ◌≢◌, ◌≤◌, ◌<◌, ◌+◌, ◌-◌, ◌*◌, ◌/◌, ◌%◌, ◌^◌, ◌==◌, ◌∙◌, ℕ, zero, suc, true}
-use Rattle.std.proofs.Common.{false, min, List, [], ◌∷◌, ◌++◌, length, take, refl, sym, ap, arith, lit≤, inl}
+use Rattle.std.proofs.Common.{◌≡◌, ◌≤◌, ◌<◌, ◌+◌, ◌-◌, ◌*◌, ◌^◌, ◌∙◌, ℕ, true}
+use Rattle.std.proofs.Common.{min, List, [], ◌∷◌, ◌++◌, length, take, refl, sym, ap, arith, lit≤, inl}
 use Rattle.std.proofs.Common.{inr}
 use Rattle.std.proofs.lemmas.Bool.{cases_Bool, and_parts, leb-true}
-use Rattle.std.proofs.lemmas.Bool.Decides.{nat_tests}
 use Rattle.std.proofs.lemmas.List.Folds.{length-prefix_len}
 use Rattle.std.proofs.lemmas.List.Sums.{take_while-cons}
 use Rattle.std.proofs.Math.Nat.{pow-le-pow_right, mul-le-mul_right}
@@ -12,7 +11,6 @@ use Rattle.std.specs.List.{AllByRecursion}
 use Rattle.std.specs.Prelude.{nat_le}
 use Rattle.fx_decimal.specs.Faults.{front_digits}
 use Rattle.fx_nums.specs.Signs.{IsDigit, number_from}
-use Rattle.fx_decimal.specs.Printed.{lowest}
 
 pub is_digit : (c : ℕ) → is_ascii_digit c ≡ true → IsDigit c
 is_digit c h =
@@ -64,18 +62,6 @@ raised_far n p some far =
     omega arith
 
 -- ---- lowest terms
-
-pub lowest_step : (n d : ℕ) → 0 < d → n % 10 ≡ 0 → lowest n d ≡ lowest (n / 10) (d - 1)
-lowest_step n zero some even = absurd (omega arith)
-lowest_step n (suc d) some even =
-    let less : suc d - 1 ≡ d = omega arith in
-    rw (even, less) refl
-
-pub lowest_stops : (n d : ℕ) → n % 10 ≢ 0 → lowest n d ≡ (n, d)
-lowest_stops n zero odd = refl
-lowest_stops n (suc d) odd =
-    let test : (n % 10 == 0) ≡ false = grind (arith, nat_tests) in
-    rw test refl
 
 pub ten_some : (k : ℕ) → 0 < 10 ^ k
 ten_some k =

@@ -9,18 +9,18 @@ use Rattle.std.proofs.lemmas.Bool.{eq-eqb, ne_eqb, eqb-true}
 use Rattle.std.proofs.lemmas.Int.{ints}
 use Rattle.std.proofs.lemmas.Nat.{pow-add}
 use Rattle.std.proofs.lemmas.List.Elements.{All-nil, All-cons, All-head, All-tail, All-filter, filter-append}
-use Rattle.fx_math.specs.Ratio.{Ratio, SameValue}
+use Rattle.fx_math.specs.Ratio.{difference_of, product_of, Ratio, SameValue, sum_of, whole}
 use Rattle.fx_math.specs.Unroll.{lagged}
 use Rattle.fx_math.proofs.Lines.{swapped}
 use Rattle.fx_math.proofs.Polynomials.{Poly, int, nat, mul, same_value}
 use Rattle.fx_math.proofs.Ring.{add-mul, neg-mul, mul_assoc}
-use Rattle.fx_nums.specs.Fraction.{Fraction, den_value, over, IsWholeOver, minus}
+use Rattle.fx_nums.specs.Fraction.{den_value, Fraction, IsWholeOver, minus, over, value_of}
 use Rattle.fx_eqs.specs.Equations.{Equations, is_kept, kept}
 use Rattle.fx_eqs.specs.ExactRun.{exact_value, row_value, terms_sum, value_read}
 use Rattle.fx_eqs.specs.Fits.{EquationsFit, IsThereByThen, SourceFits, TermFits}
 use Rattle.fx_eqs.specs.Textbook.{over_lags, over_sources, recursion, summand}
 use Rattle.fx_eqs.specs.TextbookRuns.{source_values}
-use Rattle.fx_eqs.specs.Values.{difference_of, earlier, over_numbers, over_time, product_of, sum_of, value_of, whole}
+use Rattle.fx_eqs.specs.Values.{earlier, over_numbers, over_time}
 use Rattle.fx_eqs.specs.declared.term.Source.{Source}
 use Rattle.fx_eqs.specs.declared.term.Source.TheVariants.{Row, In}
 use Rattle.fx_eqs.specs.declared.term.Term.{Term}

@@ -7,8 +7,8 @@ use Rattle.std.proofs.lemmas.Bool.{cond-false, cond-true, eq-eqb, ne_eqb}
 use Rattle.std.proofs.lemmas.Int.{ints}
 use Rattle.std.proofs.lemmas.List.{drop-drop}
 use Rattle.std.proofs.lemmas.List.Elements.{All-nil, All-cons, All-append, All-weaker}
-use Rattle.fx_math.specs.Ratio.{Ratio, SameValue}
-use Rattle.fx_nums.specs.Fraction.{Fraction, minus, one_fraction}
+use Rattle.fx_math.specs.Ratio.{difference_of, product_of, Ratio, SameValue, sum_of}
+use Rattle.fx_nums.specs.Fraction.{Fraction, minus, one_fraction, value_of}
 use Rattle.fx_eqs.specs.Denominator.{DividesEach}
 use Rattle.fx_eqs.specs.Equations.{Equations, kept}
 use Rattle.fx_eqs.specs.Fits.{EquationsFit}
@@ -18,7 +18,7 @@ use Rattle.fx_eqs.specs.Textbook.{sos_equations, sos_terms, ss_equations, ss_ter
 use Rattle.fx_eqs.specs.Textbook.{tf_terms, up_from}
 use Rattle.fx_eqs.specs.TextbookRuns.{CascadeRuns, LatticeRuns, StateSpaceRuns, TransferRuns, denominator_of}
 use Rattle.fx_eqs.specs.TextbookRuns.{matrix_row, numerator_of, reflection, section_source, source_values}
-use Rattle.fx_eqs.specs.Values.{difference_of, over_numbers, product_of, sum_of, value_of}
+use Rattle.fx_eqs.specs.Values.{over_numbers}
 use Rattle.fx_eqs.specs.declared.limits.TheConstants.{COEFFICIENTS, PORTS, REFLECTIONS, SECTIONS, STATES}
 use Rattle.fx_eqs.specs.declared.term.Source.{Source}
 use Rattle.fx_eqs.specs.declared.term.Source.TheVariants.{Row, In}

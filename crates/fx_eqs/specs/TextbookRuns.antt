@@ -1,12 +1,12 @@
 -- What the exact runs of the four forms meet, as a textbook prints it. All values are in input steps.
 use Rattle.std.specs.Prelude.{◌≡◌, ℕ, zero, suc, ◌+◌, ◌*◌, ◌<◌, ◌≤◌, ℤ, pos, List, length, take, drop, slice_index_or}
-use Rattle.fx_math.specs.Ratio.{Ratio, SameValue}
-use Rattle.fx_nums.specs.Fraction.{Fraction, zero_fraction}
+use Rattle.fx_math.specs.Ratio.{difference_of, product_of, Ratio, SameValue, sum_of, whole}
+use Rattle.fx_nums.specs.Fraction.{Fraction, value_of, zero_fraction}
 use Rattle.fx_eqs.specs.Denominator.{DividesEach}
 use Rattle.fx_eqs.specs.Equations.{Equations}
 use Rattle.fx_eqs.specs.ExactRun.{row_value}
 use Rattle.fx_eqs.specs.Textbook.{backward, forward, lattice_equations, sos_equations, ss_equations, tf_equations}
-use Rattle.fx_eqs.specs.Values.{difference_of, earlier, over_numbers, over_time, product_of, sum_of, value_of, whole}
+use Rattle.fx_eqs.specs.Values.{earlier, over_numbers, over_time}
 use Rattle.fx_eqs.specs.declared.limits.TheConstants.{COEFFICIENTS, PORTS, REFLECTIONS, SECTIONS, STATES}
 use Rattle.fx_eqs.specs.declared.term.Source.{Source}
 use Rattle.fx_eqs.specs.declared.term.Source.TheVariants.{Row, In}

@@ -1,24 +1,7 @@
--- Values as they come moment by moment, and their arithmetic.
-use Rattle.std.specs.Prelude.{ℕ, zero, suc, ◌+◌, ◌*◌, ℤ, pos, ◌+ℤ◌, ◌-ℤ◌, ◌*ℤ◌, List, [], ◌∷◌}
-use Rattle.fx_math.specs.Ratio.{Ratio}
-use Rattle.fx_nums.specs.Fraction.{Fraction, den_value}
-
--- a whole number
-abbrev pub whole : ℤ → Ratio
-whole z = record { num = z; den = 1 }
-
--- a fraction
-abbrev pub value_of : Fraction → Ratio
-value_of c = record { num = c.num; den = den_value c.den }
-
-abbrev pub sum_of : Ratio → Ratio → Ratio
-sum_of a b = record { num = a.num *ℤ pos b.den +ℤ b.num *ℤ pos a.den; den = a.den * b.den }
-
-abbrev pub difference_of : Ratio → Ratio → Ratio
-difference_of a b = record { num = a.num *ℤ pos b.den -ℤ b.num *ℤ pos a.den; den = a.den * b.den }
-
-abbrev pub product_of : Ratio → Ratio → Ratio
-product_of a b = record { num = a.num *ℤ b.num; den = a.den * b.den }
+-- Values as they come moment by moment.
+use Rattle.std.specs.Prelude.{ℕ, zero, suc, ◌+◌, pos, List, [], ◌∷◌}
+use Rattle.fx_math.specs.Ratio.{Ratio, product_of, sum_of, whole}
+use Rattle.fx_nums.specs.Fraction.{Fraction, value_of}
 
 -- the value l moments before moment k; what lies before moment 0 is 0
 abbrev pub earlier : (ℕ → Ratio) → ℕ → ℕ → Ratio

@@ -2,8 +2,7 @@
 use Rattle.std.specs.Prelude.{◌≡◌, ◌<◌, ℕ, List, [], ◌∷◌, length, get_or, map, All}
 use Rattle.toml.specs.Data.{Members}
 use Rattle.fx_math.specs.Ratio.{SameValue}
-use Rattle.fx_nums.specs.Enclosing.{value_of}
-use Rattle.fx_nums.specs.Fraction.{Fraction, OverTen, zero_fraction}
+use Rattle.fx_nums.specs.Fraction.{Fraction, OverTen, value_of, zero_fraction}
 use Rattle.fx_files.specs.Building.{assembled, equations_of}
 use Rattle.fx_files.specs.Coefficients.{Sos}
 use Rattle.fx_files.specs.Describes.{Describes}

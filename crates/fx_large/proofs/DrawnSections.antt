@@ -1,8 +1,7 @@
 -- Sections that are drawn fit a filter.
-use Rattle.std.proofs.Common.{◌≡◌, ℕ, zero, suc, ◌+◌, ◌*◌, ◌<◌, ◌≤◌, List, [], ◌∷◌, ◌++◌, length, length-append, Ok}
+use Rattle.std.proofs.Common.{◌≡◌, ℕ, zero, suc, ◌+◌, ◌*◌, List, [], ◌∷◌, ◌++◌, length, length-append, Ok}
 use Rattle.std.proofs.Common.{refl, arith}
-use Rattle.std.specs.Prelude.{All, ◌/◌}
-use Rattle.std.proofs.Math.Nat.{div-eq_of_eq-mul_left}
+use Rattle.std.specs.Prelude.{All}
 use Rattle.std.proofs.lemmas.List.Elements.{All-nil, All-append}
 use Rattle.fx_nums.specs.Fraction.{Fraction, OverTen, is_one, one_fraction}
 use Rattle.fx_keys.specs.declared.key.Key.TheVariants as key
@@ -65,19 +64,4 @@ more_sections i cs s h =
       count = omega (arith, length-append cs (section_from s), h.count, one.count);
       lead = λ place. leads i place cs (section_from s) h.count (h.lead place) one.lead;
       over_ten = All-append OverTen cs (section_from s) h.over_ten one.over_ten;
-    }
-
-pub sections_fit : (i : ℕ) (cs : List Fraction) → AreSections i cs → 1 ≤ i → i ≤ 8 → SectionsFit cs
-sections_fit i cs h some few =
-    let six : 0 < 6 = omega arith in
-    let again : length cs ≡ i * 6 = omega (arith, h.count) in
-    let number : length cs / 6 ≡ i = div-eq_of_eq-mul_left six again in
-    record {
-      cascade = record {
-        low = omega (arith, h.count);
-        high = omega (arith, h.count);
-        whole = omega (arith, h.count, number);
-        is_monic = h.lead 0;
-      };
-      over_ten = h.over_ten;
     }

@@ -3,7 +3,7 @@ use Rattle.std.proofs.Common.{◌≡◌, ℕ, ◌*◌, ◌^◌, ◌<◌, Bool, t
 use Rattle.std.proofs.Common.{pos, neg_ℤ, ◌+ℤ◌, ◌-ℤ◌, ◌*ℤ◌, ◌≤ℤ◌}
 use Rattle.std.proofs.lemmas.Int.{ints}
 use Rattle.std.proofs.lemmas.Option.{cond_some, option_and_then_some}
-use Rattle.fx_math.specs.Ratio.{Ratio, SameValue}
+use Rattle.fx_math.specs.Ratio.{difference_of, product_of, Ratio, SameValue, whole}
 use Rattle.fx_math.proofs.Division.{mul_le_nat}
 use Rattle.fx_math.proofs.Lines.{le_trans, mul_le_back, swapped}
 use Rattle.fx_math.proofs.Polynomials.{add, int, mul, nat, neg, same_value, sub}
@@ -12,7 +12,6 @@ use Rattle.fx_nums.specs.Enclosing.{Encloses}
 use Rattle.fx_nums.specs.Interval.{Interval, opposite, plus}
 use Rattle.fx_nums.proofs.EndLaws.{greatest_high, least_low, times_encloses, widened_ordered}
 use Rattle.fx_nums.proofs.QuotientLaws.{divided_encloses}
-use Rattle.fx_eqs.specs.Values.{difference_of, product_of, whole}
 use Rattle.fx_lattice.specs.Operations.{fits, in_range, less_product, one_point, quotient}
 
 -- ---- the same value

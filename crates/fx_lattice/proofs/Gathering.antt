@@ -9,10 +9,6 @@ use Rattle.fx_lattice.specs.StepDown.{behind, gathered, listed, lower_a, lower_b
 pub listed_next : (n : ℕ) (f : ℕ → Interval) → listed (n + 1) f ≡ listed n f ++ f n ∷ []
 listed_next n f = let e : n + 1 ≡ suc n = omega arith in ap (λ m. listed m f) e
 
-pub gathered_next : (n : ℕ) (f : ℕ → Option Interval) (xs : List Interval) (x : Interval) →
-    gathered n f ≡ Some xs → f n ≡ Some x → gathered (n + 1) f ≡ Some (xs ++ x ∷ [])
-gathered_next n f xs x h k = let e : n + 1 ≡ suc n = omega arith in rw (e, h, k) refl
-
 -- where one is missing, there is no list
 pub gathered_stops : (n j : ℕ) (f : ℕ → Option Interval) → j < n → f j ≡ None → gathered n f ≡ None
 gathered_stops zero j f l h = absurd (omega arith)

@@ -8,15 +8,14 @@ use Rattle.std.proofs.lemmas.Int.{ints}
 use Rattle.std.proofs.lemmas.List.{get_or_append_left, get_or_at, length-append}
 use Rattle.std.proofs.lemmas.Option.{option_and_then_some}
 use Rattle.fx_math.specs.Faults.{◌>>=◌, or_fault, unless}
-use Rattle.fx_math.specs.Ratio.{Ratio, SameValue}
+use Rattle.fx_math.specs.Ratio.{difference_of, product_of, Ratio, SameValue, whole}
 use Rattle.fx_math.proofs.Division.{ceil_above, floor_below}
 use Rattle.fx_nums.specs.Enclosing.{Encloses}
-use Rattle.fx_nums.specs.Fraction.{Fraction, den_value}
+use Rattle.fx_nums.specs.Fraction.{den_value, Fraction, value_of}
 use Rattle.fx_nums.specs.Interval.{Interval, point}
 use Rattle.fx_nums.specs.declared.fraction.Den.{Den}
 use Rattle.fx_nums.specs.declared.fraction.Den.TheVariants.{Two, Ten}
 use Rattle.fx_eqs.specs.declared.limits.TheConstants.{REFLECTIONS}
-use Rattle.fx_eqs.specs.Values.{difference_of, product_of, value_of, whole}
 use Rattle.fx_lattice.specs.Exact.{Enclosures, EnclosesExact, EnclosesLattice, EnclosesOrder, MeetsStepDown}
 use Rattle.fx_lattice.specs.Exact.{OrdersEnclose, below, one_less_square, orders_down}
 use Rattle.fx_lattice.specs.Lattice.{Lattice, LatticeFits, at, reflection, tap}

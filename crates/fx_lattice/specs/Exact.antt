@@ -1,9 +1,8 @@
 -- Step-down over exact values, and what the enclosures of a lattice enclose.
 use Rattle.std.specs.Prelude.{◌≡◌, ℕ, zero, suc, ◌+◌, ◌-◌, ◌<◌, ◌≤◌, pos, List, Option, Some, option_and_then}
-use Rattle.fx_math.specs.Ratio.{Ratio, SameValue}
+use Rattle.fx_math.specs.Ratio.{difference_of, product_of, Ratio, SameValue, whole}
 use Rattle.fx_nums.specs.Enclosing.{Encloses}
-use Rattle.fx_nums.specs.Fraction.{Fraction}
-use Rattle.fx_eqs.specs.Values.{difference_of, product_of, value_of, whole}
+use Rattle.fx_nums.specs.Fraction.{Fraction, value_of}
 use Rattle.fx_nums.specs.Interval.{Interval}
 use Rattle.fx_lattice.specs.Lattice.{Lattice, at, reflection, tap}
 use Rattle.fx_lattice.specs.StepDown.{behind, coefficient, enclosures, greater_order, lower_denominator}

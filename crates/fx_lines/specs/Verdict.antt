@@ -1,5 +1,5 @@
 -- The lines of a verdict.
-use Rattle.std.specs.Prelude.{ℕ, ◌+◌, ℤ, List, [], ◌∷◌, ◌++◌, codes, Option, Some, None}
+use Rattle.std.specs.Prelude.{ℕ, ◌+◌, ℤ, List, [], ◌∷◌, ◌++◌, codes}
 use Rattle.std.specs.Fmt.{decimal, signed_decimal}
 use Rattle.fx_decimal.specs.Printed.{up_text}
 use Rattle.fx_sweep.specs.declared.target.Place.{Place}
@@ -63,7 +63,3 @@ abbrev pub refused_line : Failure → List ℕ
 refused_line failure = codes "refused " ++ inequality_text failure.which ++ sides_line failure.left failure.right
 
 -- ---- either
-
-abbrev pub verdict_lines : Option Failure → List ℤ → List ℕ
-verdict_lines None errors = accepted_lines errors
-verdict_lines (Some failure) errors = refused_line failure

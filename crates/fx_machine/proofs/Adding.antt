@@ -33,14 +33,6 @@ watched_further bits sum words terms i h =
     at_drop_more (λ ts. list_any (is_outside bits) (later_sums sum words ts)) terms i
     (record { multiplier = pos 0; place = 0 }) h
 
--- a product does not pass what is left
-pub product_reach : (words : List ℤ) (terms : List ScaledTerm) (i n : ℕ) → i < length terms →
-    magnitudes words (drop i terms) < n →
-    unsigned_abs (term_at terms i).multiplier * unsigned_abs (word_in words (term_at terms i).place) < n
-product_reach words terms i n h k =
-    let e = at_drop_more (magnitudes words) terms i (record { multiplier = pos 0; place = 0 }) h in
-    omega (arith, e)
-
 or_assoc : (a b c : Bool) → ((a || b) || c) ≡ (a || (b || c))
 or_assoc true b c = refl
 or_assoc false b c = refl

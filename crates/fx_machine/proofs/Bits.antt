@@ -15,16 +15,6 @@ use Rattle.fx_math.proofs.Residue.{wrap_fits, residue_congruence}
 use Rattle.std.proofs.Math.Nat.{pow-le-pow_right}
 use Rattle.fx_machine.specs.Prepared.{half_of, is_beyond, is_outside}
 
-pub wrap_at_half : (w : ℕ) (z : ℤ) → 1 ≤ w →
-    int_rem_euclid (z +ℤ pos (2 ^ (w - 1))) (pos (2 ^ (w - 1)) +ℤ pos (2 ^ (w - 1))) -ℤ pos (2 ^ (w - 1))
-    ≡ wrap w z
-unfolding wrap
-wrap_at_half zero z h = absurd (omega arith)
-wrap_at_half (suc w) z h =
-    let d : 2 ^ suc w ≡ 2 * 2 ^ (suc w - 1) = pow-succ' 2 w ∙ ap (λ n. 2 * 2 ^ n) (omega arith) in
-    let e : 2 ^ (suc w - 1) + 2 ^ (suc w - 1) ≡ 2 ^ suc w = omega (arith, d) in
-    ap (λ m. int_rem_euclid (z +ℤ pos (2 ^ (suc w - 1))) (pos m) -ℤ pos (2 ^ (suc w - 1))) e
-
 -- a number is one of the bits exactly where the test says so
 pub fits_from : (w : ℕ) (z : ℤ) → is_outside w z ≡ false → FitsBits w z
 fits_from w (pos n) h = record { low = omega (arith, ints); high = grind (arith, ints, nat_tests, h) }

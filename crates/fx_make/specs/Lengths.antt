@@ -23,11 +23,6 @@ abbrev pub raises_of : Filter → List BareRow → ℕ → Raises
 raises_of f rows m =
     least_by_raises (candidate_net f rows) (candidate_count f rows) (λ j. m) (bound_of f) (cap_of f rows)
 
-abbrev pub raises_fail : Raises → Option Fail
-raises_fail (Rest x) = None
-raises_fail (OverCap row value cap) = Some (Over row (pos value) (pos cap))
-raises_fail (TooSlow row before after) = Some (Slow row (pos before) (pos after))
-
 -- the first output whose total is above its target
 abbrev pub above_fail : Filter → (ℕ → ℤ) → Option ℕ → Option Fail
 above_fail f total None = None

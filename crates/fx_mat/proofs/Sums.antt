@@ -7,10 +7,10 @@ use Rattle.fx_math.specs.Sums.{total}
 use Rattle.fx_math.proofs.Ring.{mul_assoc, mul_comm, add-mul}
 use Rattle.fx_math.proofs.Division.{mul_le_nat}
 use Rattle.fx_math.proofs.Lines.{swapped, split_factor}
-use Rattle.fx_math.specs.Ratio.{Ratio}
+use Rattle.fx_math.specs.Ratio.{product_of, Ratio}
 use Rattle.fx_nums.specs.Arithmetic.{IsWithin, scaled}
-use Rattle.fx_nums.specs.Enclosing.{Encloses, product, value_of}
-use Rattle.fx_nums.specs.Fraction.{Fraction, IsWholeOver, over, den_value}
+use Rattle.fx_nums.specs.Enclosing.{Encloses}
+use Rattle.fx_nums.specs.Fraction.{den_value, Fraction, IsWholeOver, over, value_of}
 use Rattle.fx_nums.specs.Interval.{Interval, IntervalFits, plus, point}
 use Rattle.fx_mat.specs.Intervals.{EnclosesSums, IsRowByColumn, row_by_column, zero_interval}
 
@@ -71,7 +71,7 @@ sum_encloses a b m n den h k = record {
 
 pub partial_more : (n : ℕ) (row : ℕ → Interval) (column : ℕ → Fraction) (v s w : Interval) →
     IsPartial n row column v → s ≡ scaled (row n) (column n) → IsWithin (2 ^ 56 * 2 ^ 56) s →
-    ((x : Ratio) → Encloses (row n) x → Encloses s (product x (value_of (column n)))) → w ≡ plus v s →
+    ((x : Ratio) → Encloses (row n) x → Encloses s (product_of x (value_of (column n)))) → w ≡ plus v s →
     IsPartial (n + 1) row column w
 partial_more n row column v s w p is small within sum = rw (add-one, sum) record {
   value = rw (is, p.value) refl;

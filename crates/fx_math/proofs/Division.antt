@@ -53,9 +53,6 @@ pub mul_abs_ge : (e : ℤ) (t : ℕ) → neg_ℤ (pos (unsigned_abs e * t)) ≤�
 mul_abs_ge (pos n) t = omega (arith, ints)
 mul_abs_ge (negsuc n) t = omega (arith, ints)
 
-pub cancel_le : (a b k : ℕ) → 0 < k → a * k ≤ b * k → a ≤ b
-cancel_le a b k h e = grind arith
-
 pub cancel_lt : (a b k : ℕ) → a * k < b * k → a < b
 cancel_lt a b k e = grind arith
 

@@ -4,7 +4,7 @@ use Rattle.std.proofs.Common.{inl, inr, subst, ap, ◌∙◌}
 use Rattle.std.proofs.Math.IntN.{ℤ, pos}
 use Rattle.std.proofs.Math.Nat.{one-le-pow}
 use Rattle.std.proofs.lemmas.Bool.{cases_lt}
-use Rattle.fx_math.specs.Ratio.{Ratio, SameValue}
+use Rattle.fx_math.specs.Ratio.{Ratio, SameValue, whole}
 use Rattle.fx_math.specs.Sums.{sum_below}
 use Rattle.fx_math.specs.Unroll.{lagged}
 use Rattle.fx_math.proofs.Values.{same_chains}
@@ -14,7 +14,7 @@ use Rattle.fx_eqs.specs.Equations.{Equations}
 use Rattle.fx_eqs.specs.ExactRun.{row_value}
 use Rattle.fx_eqs.specs.Expanded.{expanded, input_hold_place, row_hold_place, row_place}
 use Rattle.fx_eqs.specs.Lags.{greatest_lag}
-use Rattle.fx_eqs.specs.Values.{earlier, whole}
+use Rattle.fx_eqs.specs.Values.{earlier}
 use Rattle.fx_eqs.specs.declared.term.Source.TheVariants.{Row, In}
 use Rattle.fx_net.specs.Laws.{HasExactValues}
 use Rattle.fx_net.specs.Net.{Net}

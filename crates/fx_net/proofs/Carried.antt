@@ -7,9 +7,8 @@ use Rattle.std.proofs.lemmas.Nat.{pow-add}
 use Rattle.fx_math.proofs.Lines.{swapped}
 use Rattle.fx_math.proofs.Ring.{mul_comm, mul_assoc}
 use Rattle.fx_math.specs.Unroll.{lagged, before}
-use Rattle.fx_math.specs.Ratio.{Ratio, SameValue}
+use Rattle.fx_math.specs.Ratio.{Ratio, SameValue, whole}
 use Rattle.fx_nums.specs.Fraction.{Fraction, over, IsWholeOver, den_value}
-use Rattle.fx_eqs.specs.Values.{whole}
 use Rattle.fx_eqs.proofs.TermValues.{gather}
 use Rattle.fx_net.specs.Net.{Net}
 use Rattle.fx_net.specs.Run.{net_value, row_time}
@@ -96,11 +95,6 @@ carried net q g n y z k s j a e = e
 -- row s has input j, a moments before
 pub CarriesInput : Net → ℕ → (ℕ → ℕ → ℤ) → (ℕ → ℕ → ℤ) → ℕ → ℕ → ℕ → ℕ → Type 0
 CarriesInput net q u z k s j a = z k s ≡ lagged u k a j *ℤ pos (q ^ (row_time net k s + 1))
-
-pub carries_input : (net : Net) (q : ℕ) (u z : ℕ → ℕ → ℤ) (k s j a : ℕ) →
-    z k s ≡ lagged u k a j *ℤ pos (q ^ (row_time net k s + 1)) → CarriesInput net q u z k s j a
-unfolding CarriesInput
-carries_input net q u z k s j a e = e
 
 pub carried_input : (net : Net) (q : ℕ) (u z : ℕ → ℕ → ℤ) (k s j a : ℕ) → CarriesInput net q u z k s j a →
     z k s ≡ lagged u k a j *ℤ pos (q ^ (row_time net k s + 1))

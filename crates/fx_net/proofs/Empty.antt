@@ -3,7 +3,7 @@ use Rattle.std.proofs.Common.{◌≡◌, ℕ, ◌<◌, refl, arith, ◌∙◌}
 use Rattle.std.proofs.lemmas.Bool.{and_left, cond-false, ne_eqb}
 use Rattle.fx_nums.specs.Fraction.{Fraction}
 use Rattle.fx_mat.specs.Entries.{put}
-use Rattle.fx_net.specs.Net.{Net, empty_net, put_now, put_old, put_input, put_class}
+use Rattle.fx_net.specs.Net.{Net, empty_net, put_input}
 use Rattle.fx_net.specs.Rows.{AreEmpty}
 
 pub new_rows_are_empty : (at count n : ℕ) → AreEmpty at count (empty_net n)
@@ -14,28 +14,6 @@ other_row : (p q : ℕ) (c : Fraction) (entries : ℕ → ℕ → Fraction) (i j
     put p q c entries i j ≡ entries i j
 other_row p q c entries i j ne = cond-false _ _ _ (and_left _ _ (ne_eqb i p ne))
 
--- row p is before these rows
-pub now_before : (at count p q : ℕ) (c : Fraction) (net : Net) → p < at → AreEmpty at count net →
-    AreEmpty at count (put_now p q c net)
-now_before at count p q c net l e =
-    record {
-      now = λ i j h k. other_row p q _ net.now i j (λ same. omega arith) ∙ e.now i j h k;
-      old =
-          e.old;
-      input = e.input;
-      class = e.class;
-    }
-
-pub old_before : (at count p q : ℕ) (c : Fraction) (net : Net) → p < at → AreEmpty at count net →
-    AreEmpty at count (put_old p q c net)
-old_before at count p q c net l e =
-    record {
-      now = e.now;
-      old = λ i j h k. other_row p q _ net.old i j (λ same. omega arith) ∙ e.old i j h k;
-      input = e.input;
-      class = e.class;
-    }
-
 pub input_before : (at count p q : ℕ) (c : Fraction) (net : Net) → p < at → AreEmpty at count net →
     AreEmpty at count (put_input p q c net)
 input_before at count p q c net l e =
@@ -45,15 +23,4 @@ input_before at count p q c net l e =
       input = λ i j h k.
           other_row p q _ net.input i j (λ same. omega arith) ∙ e.input i j h k;
       class = e.class;
-    }
-
-pub class_before : (at count p n : ℕ) (net : Net) → p < at → AreEmpty at count net →
-    AreEmpty at count (put_class p n net)
-class_before at count p n net l e =
-    record {
-      now = e.now;
-      old = e.old;
-      input = e.input;
-      class =
-          λ i h k. cond-false _ _ _ (ne_eqb i p (λ same. omega arith)) ∙ e.class i h k;
     }

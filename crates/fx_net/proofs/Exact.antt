@@ -7,7 +7,7 @@ use Rattle.std.proofs.lemmas.Bool.{cases_lt, cases_eq, eq-eqb, ne_eqb}
 use Rattle.std.proofs.lemmas.List.Elements.{All-head, All-tail}
 use Rattle.fx_math.proofs.Lines.{swapped}
 use Rattle.fx_math.proofs.Ring.{add-mul}
-use Rattle.fx_math.specs.Ratio.{SameValue}
+use Rattle.fx_math.specs.Ratio.{SameValue, whole}
 use Rattle.fx_math.specs.Unroll.{lagged}
 use Rattle.fx_eqs.specs.declared.limits.TheConstants.{PORTS}
 use Rattle.fx_eqs.specs.Denominator.{DividesEach}
@@ -19,7 +19,7 @@ use Rattle.fx_eqs.specs.Expanded.NetRead.{Old, In}
 use Rattle.fx_eqs.specs.Fits.{EquationsFit, IsThereByThen}
 use Rattle.fx_eqs.specs.Lags.{greatest_lag}
 use Rattle.fx_eqs.specs.Laws.{MeetsEquations}
-use Rattle.fx_eqs.specs.Values.{earlier, whole}
+use Rattle.fx_eqs.specs.Values.{earlier}
 use Rattle.fx_eqs.specs.declared.term.Source.{Source}
 use Rattle.fx_eqs.specs.declared.term.Source.TheVariants.{Row, In as Input}
 use Rattle.fx_eqs.specs.declared.term.Term.{Term}

@@ -1,34 +1,20 @@
 -- What the terms of an equation system read in its expanded net.
 use Rattle.std.proofs.Common.{◌≡◌, ℕ, zero, suc, ◌+◌, ◌-◌, ◌<◌, ◌≤◌, List, [], ◌∷◌, length, get_or, arith, refl}
-use Rattle.std.proofs.Common.{ap, sym, subst, drop, drop-cons, add-one, ◌∙◌, All, true, map, filter, ◌==◌}
+use Rattle.std.proofs.Common.{sym, subst, All, true, map, filter, ◌==◌}
 use Rattle.std.proofs.lemmas.Bool.{eq-eqb, ne_eqb, cond-true}
 use Rattle.fx_eqs.specs.declared.limits.TheConstants.{PORTS}
 use Rattle.fx_eqs.specs.Equations.{Equations}
-use Rattle.fx_eqs.specs.Expanded.{NetTerm, net_read, expanded, input_hold_place, row_place, row_hold_place}
-use Rattle.fx_eqs.specs.Expanded.NetRead.{Old}
+use Rattle.fx_eqs.specs.Expanded.{NetTerm, net_read, expanded, row_place}
 use Rattle.fx_eqs.specs.Fits.{SourceFits, TermFits, IsThereByThen}
 use Rattle.fx_eqs.specs.Lags.{greatest_lag, same_source}
 use Rattle.fx_eqs.specs.declared.term.Source.{Source}
 use Rattle.fx_eqs.specs.declared.term.Source.TheVariants.{Row, In as Input}
 use Rattle.fx_eqs.specs.declared.term.Term.{Term}
 use Rattle.fx_net.specs.Layout.{ArePlaces, IsRead}
-use Rattle.fx_net.specs.Net.{Net}
-use Rattle.fx_net.specs.Rows.{ReadFits, put_term, put_terms}
+use Rattle.fx_net.specs.Rows.{ReadFits}
 use Rattle.fx_net.proofs.Positions.{sum_within, row_hold_end, input_hold_inside, row_hold_inside, row_inside}
 
 -- ---- what a source at a lag is read from
-
-pub input_late : (s : Equations) (j lag : ℕ) → 0 < lag → net_read s (Input j) lag ≡ Old (input_hold_place s j + lag - 1)
-input_late s j zero h = absurd (omega arith)
-input_late s j (suc l) h = ap Old (omega arith)
-
-pub row_once : (s : Equations) (j lag : ℕ) → lag ≡ 1 → net_read s (Row j) lag ≡ Old (row_place s j)
-row_once s j lag e = rw e refl
-
-pub row_late : (s : Equations) (j lag : ℕ) → 2 ≤ lag → net_read s (Row j) lag ≡ Old (row_hold_place s j + lag - 2)
-row_late s j zero h = absurd (omega arith)
-row_late s j (suc zero) h = absurd (omega arith)
-row_late s j (suc (suc l)) h = ap Old (omega arith)
 
 -- ---- lags
 
@@ -120,20 +106,3 @@ takes s i t ts e = rw (eq-eqb t.row i e) refl
 pub passes_over : (s : Equations) (i : ℕ) (t : Term) (ts : List Term) → (t.row ≡ i → ⊥) →
     net_terms s i (t ∷ ts) ≡ net_terms s i ts
 passes_over s i t ts ne = rw (ne_eqb t.row i ne) refl
-
-item_first : (ts : List Term) (k : ℕ) (t : Term) → k < length ts → t ≡ get_or ts k t → drop k ts ≡ t ∷ drop (k + 1) ts
-item_first ts k t h it = rw (add-one k) (drop-cons ts k t h ∙ ap (λ (x : Term). x ∷ drop (suc k) ts) (sym it))
-
--- one more term of the list, of this row or of another
-pub item_taken : (s : Equations) (at r i k : ℕ) (ts : List Term) (t : Term) (net : Net) → k < length ts →
-    t ≡ get_or ts k t → t.row ≡ i →
-    put_terms at r (net_terms s i (drop k ts)) net
-    ≡ put_terms at r (net_terms s i (drop (k + 1) ts)) (put_term at r t.coef (net_read s t.from t.lag) net)
-item_taken s at r i k ts t net h it e =
-    rw (item_first ts k t h it) (ap (λ xs. put_terms at r xs net) (takes s i t (drop (k + 1) ts) e))
-
-pub item_passed : (s : Equations) (at r i k : ℕ) (ts : List Term) (t : Term) (net : Net) → k < length ts →
-    t ≡ get_or ts k t → (t.row ≡ i → ⊥) →
-    put_terms at r (net_terms s i (drop k ts)) net ≡ put_terms at r (net_terms s i (drop (k + 1) ts)) net
-item_passed s at r i k ts t net h it ne =
-    rw (item_first ts k t h it) (ap (λ xs. put_terms at r xs net) (passes_over s i t (drop (k + 1) ts) ne))

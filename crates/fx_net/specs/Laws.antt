@@ -1,6 +1,6 @@
 -- What the laws of this crate say.
 use Rattle.std.specs.Prelude.{◌≡◌, ◌⊎◌, ℕ, suc, ◌+◌, ◌-◌, ◌<◌, ◌≤◌, ℤ, pos, List, length, All}
-use Rattle.fx_math.specs.Ratio.{SameValue}
+use Rattle.fx_math.specs.Ratio.{SameValue, whole}
 use Rattle.fx_math.specs.Unroll.{lagged}
 use Rattle.fx_nums.specs.Fraction.{IsWholeOver}
 use Rattle.fx_eqs.specs.Denominator.{DividesEach}
@@ -9,7 +9,7 @@ use Rattle.fx_eqs.specs.ExactRun.{row_value}
 use Rattle.fx_eqs.specs.Expanded.{NetTerm, expanded, input_hold_place, row_hold_place, row_place}
 use Rattle.fx_eqs.specs.Fits.{EquationsFit}
 use Rattle.fx_eqs.specs.Lags.{greatest_lag}
-use Rattle.fx_eqs.specs.Values.{earlier, whole}
+use Rattle.fx_eqs.specs.Values.{earlier}
 use Rattle.fx_eqs.specs.declared.term.Source.TheVariants.{Row, In}
 use Rattle.fx_net.specs.Net.{Net, empty_net}
 use Rattle.fx_net.specs.Rows.{AreEmpty, HoldsRows, IsSameRow, put_rows}

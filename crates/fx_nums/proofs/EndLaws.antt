@@ -3,7 +3,7 @@ use Rattle.std.proofs.Common.{◌≡◌, ℕ, ◌+◌, ◌-◌, ◌*◌, ◌^◌
 use Rattle.std.proofs.Common.{◌*ℤ◌, ◌≤ℤ◌, unsigned_abs}
 use Rattle.std.specs.Int.{int_min, int_max}
 use Rattle.std.proofs.lemmas.Int.{ints, clamps}
-use Rattle.fx_math.specs.Ratio.{Ratio}
+use Rattle.fx_math.specs.Ratio.{product_of, Ratio}
 use Rattle.fx_math.proofs.Ring.{mul_assoc, mul_comm}
 use Rattle.fx_math.proofs.Division.{floor_below, ceil_above, mul_le_nat}
 use Rattle.fx_math.proofs.Rounding.{floor_parts, ceil_parts}
@@ -11,7 +11,7 @@ use Rattle.fx_math.proofs.Lines.{le_trans, swapped, split_factor, line_low, line
 use Rattle.fx_math.proofs.Lines.{corners_high, rounded_low, rounded_high, min_left, min_right, max_left}
 use Rattle.fx_math.proofs.Lines.{max_right, min_within, max_within, mul_le_back}
 use Rattle.fx_nums.specs.Arithmetic.{IsScaled, IsProduct, least_of, greatest_of, times, widened}
-use Rattle.fx_nums.specs.Enclosing.{Encloses, product}
+use Rattle.fx_nums.specs.Enclosing.{Encloses}
 use Rattle.fx_nums.specs.Interval.{Interval}
 use Rattle.fx_nums.specs.Products.{product_down, product_up, widened_low, widened_high, IsRoundedProduct}
 
@@ -185,7 +185,7 @@ both_scaled : (x y : ℤ) → x *ℤ pos (2 ^ 32) *ℤ (y *ℤ pos (2 ^ 32)) ≡
 both_scaled x y = sym (corner_is x y (2 ^ 32) (2 ^ 32))
 
 pub times_encloses : (i j v : Interval) (x y : Ratio) → v ≡ times i j → Encloses i x → Encloses j y →
-    Encloses v (product x y)
+    Encloses v (product_of x y)
 times_encloses i j v x y e h k =
     let a = widened_low i.lo in
     let b = widened_high i.hi in

@@ -1,3 +1,4 @@
+pub mod Denominators
 pub mod EndLaws
 pub mod Narrow
 pub mod ProductLaws

@@ -1,9 +1,8 @@
 -- What holds of products that are rounded down and up.
-use Rattle.std.proofs.Common.{◌≡◌, ℕ, zero, suc, ◌+◌, ◌*◌, ◌^◌, ◌<◌, ◌≤◌, refl, arith, ℤ, pos, negsuc, ◌*ℤ◌}
+use Rattle.std.proofs.Common.{◌≡◌, ℕ, suc, ◌+◌, ◌*◌, ◌^◌, ◌<◌, ◌≤◌, refl, arith, ℤ, pos, negsuc, ◌*ℤ◌}
 use Rattle.std.proofs.Common.{◌+ℤ◌, ◌≤ℤ◌, ◌<ℤ◌, unsigned_abs, le_of_lt, cond, true, false}
 use Rattle.std.proofs.Math.Nat.{mul-le-mul_left, mul-le-mul_right, le_of_mul-le-mul_right}
 use Rattle.std.proofs.lemmas.Int.{ints, unsigned_abs-mul, int_min_is, int_max_is}
-use Rattle.std.proofs.lemmas.Bool.{ltb-true}
 use Rattle.std.specs.Int.{int_min, int_max}
 use lib.Signed.{lt_z}
 use borrow.Author.Differences.{up, down}
@@ -180,9 +179,6 @@ pub up_wide : (p num : ℤ) (d : ℕ) → is_exact p num ≡ false →
 unfolding product_up
 up_wide p num d e = rw e refl
 
-pub exact_product : (p num : ℤ) → is_exact p num ≡ true → unsigned_abs (p *ℤ num) < 2 ^ 126
-exact_product p num e = ltb-true (unsigned_abs (p *ℤ num)) (2 ^ 126) e
-
 pub lesser_quotient_within : (p num : ℤ) (d : ℕ) → IsOperands p num d →
     unsigned_abs (floor_div (lesser_product p num) d) ≤ 2 ^ 87
 lesser_quotient_within p num d o =
@@ -192,15 +188,6 @@ pub greater_quotient_within : (p num : ℤ) (d : ℕ) → IsOperands p num d →
     unsigned_abs (ceil_div (greater_product p num) d) ≤ 2 ^ 87
 greater_quotient_within p num d o =
     ceil_within (greater_product p num) d (2 ^ 87) o.positive (greater_within p num d o)
-
-pub greater_product_fits : (p num : ℤ) (d : ℕ) → IsOperands p num d → unsigned_abs (greater_product p num) < 2 ^ 127
-greater_product_fits p num d o =
-    max_below (floor_div p (2 ^ 32) *ℤ num) (ceil_div p (2 ^ 32) *ℤ num) (2 ^ 127)
-    (small (floor_div p (2 ^ 32)) num (down_within p o.p_in) o.num_in)
-    (small (ceil_div p (2 ^ 32)) num (up_within p o.p_in) o.num_in)
-  where
-    small : (q num : ℤ) → unsigned_abs q ≤ 2 ^ 63 → unsigned_abs num < 2 ^ 62 → unsigned_abs (q *ℤ num) < 2 ^ 127
-    small q num h k = omega (arith, unsigned_abs-mul q num, mul-le-mul_right (unsigned_abs num) h)
 
 pub product_ordered : (p num : ℤ) (d : ℕ) → 0 < d → product_down p num d ≤ℤ product_up p num d
 product_ordered p num d h =

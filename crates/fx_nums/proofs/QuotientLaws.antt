@@ -4,13 +4,13 @@ use Rattle.std.proofs.Common.{refl, sym, ◌∙◌, arith, ap, lit<, ℤ, pos, n
 use Rattle.std.proofs.Common.{unsigned_abs, int_le}
 use Rattle.std.proofs.lemmas.Int.{ints}
 use Rattle.fx_math.specs.Division.{floor_div, ceil_div}
-use Rattle.fx_math.specs.Ratio.{Ratio}
+use Rattle.fx_math.specs.Ratio.{product_of, Ratio}
 use Rattle.fx_math.proofs.Ring.{mul_assoc, mul_comm, mul-neg, neg-mul}
 use Rattle.fx_math.proofs.Division.{floor_below, ceil_above, floor_le-ceil, mul_le_nat}
 use Rattle.fx_math.proofs.Lines.{le_trans, swapped, split_factor, line_low, line_high, mul_le_back}
 use Rattle.fx_nums.specs.Arithmetic.{IsQuotient, least_of, greatest_of, quotient_down, quotient_up, divided}
 use Rattle.fx_nums.specs.Arithmetic.{widened, has_zero}
-use Rattle.fx_nums.specs.Enclosing.{Encloses, product}
+use Rattle.fx_nums.specs.Enclosing.{Encloses}
 use Rattle.fx_nums.specs.Interval.{Interval}
 use Rattle.fx_nums.specs.Products.{widened_low, widened_high}
 use Rattle.fx_nums.proofs.EndLaws.{IsLow, IsHigh, least_low, greatest_high, least_within, greatest_within}
@@ -201,7 +201,7 @@ apart_sides c d h = by (int_le c (pos 0)) (int_le (pos 0) d) refl refl h
 
 pub divided_encloses : (i j v : Interval) (q y : Ratio) → has_zero (widened j) ≡ false →
     widened_low j.lo ≤ℤ widened_high j.hi → v ≡ divided i j → 0 < y.den → Encloses j y →
-    Encloses i (product q y) → Encloses v q
+    Encloses i (product_of q y) → Encloses v q
 divided_encloses i j v q y apart order e some h k =
     let c = widened_low j.lo in
     let d = widened_high j.hi in

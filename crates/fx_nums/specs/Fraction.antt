@@ -1,6 +1,7 @@
 -- Fractions over a power of two or of ten.
 use Rattle.std.specs.Prelude.{◌≡◌, ℕ, ℤ, pos, neg_ℤ, ◌*ℤ◌, ◌*◌, ◌/◌, ◌^◌, ◌<◌, ◌≤◌, ◌==◌, ◌&&◌, Bool, int_lt}
 use Rattle.std.specs.Prelude.{unsigned_abs}
+use Rattle.fx_math.specs.Ratio.{Ratio}
 use Rattle.fx_nums.specs.declared.fraction.Den.{Den}
 use Rattle.fx_nums.specs.declared.fraction.Den.TheVariants.{Two, Ten}
 use Rattle.fx_nums.specs.declared.limits.TheConstants.{NUMERATOR_BITS, VALUE_BITS, GREATEST_TWO, GREATEST_TEN}
@@ -28,6 +29,10 @@ IsOverTen den = den ≡ Ten (tens den)
 pub record Fraction : Type 0 where
   pub num : ℤ
   pub den : Den
+
+-- the value of a fraction
+abbrev pub value_of : Fraction → Ratio
+value_of c = record { num = c.num; den = den_value c.den }
 
 -- the limits of a fraction: of its denominator, of its numerator's magnitude, and of its value's
 pub record FractionFits (num : ℤ) (den : Den) : Type 0 where

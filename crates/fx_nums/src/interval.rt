@@ -19,7 +19,7 @@ ghost use Rattle.std.specs.Prelude.{
   unsigned_abs,
 };
 ghost use Rattle.fx_math.specs.Division.{floor_div, ceil_div};
-ghost use Rattle.fx_math.specs.Ratio.{Ratio};
+ghost use Rattle.fx_math.specs.Ratio.{product_of, Ratio};
 ghost use Rattle.fx_nums.specs.Arithmetic.{
   IsLeastMagnitude,
   IsScaled,
@@ -37,8 +37,8 @@ ghost use Rattle.fx_nums.specs.Arithmetic.{
   widened,
   width,
 };
-ghost use Rattle.fx_nums.specs.Enclosing.{Encloses, product, value_of};
-ghost use Rattle.fx_nums.specs.Fraction.{den_value};
+ghost use Rattle.fx_nums.specs.Enclosing.{Encloses};
+ghost use Rattle.fx_nums.specs.Fraction.{den_value, value_of};
 ghost use Rattle.fx_nums.specs.Products.{IsRoundedProduct, widened_low, widened_high};
 ghost use Rattle.fx_nums.specs.Interval.{IntervalFits, IsInterval, point, enclosure, plus, opposite, magnitude};
 
@@ -232,7 +232,7 @@ impl Iv {
         ensures small { IsWithin (2 ^ SUMMAND_BITS) result }
         ensures scales { (b : ℕ) → IsWithin (b * 2 ^ DROPPED_BITS) self →
             IsWithin (b * 2 ^ (VALUE_BITS + DROPPED_BITS)) result }
-        ensures encloses { (x : Ratio) → Encloses self x → Encloses result (product x (value_of c)) }
+        ensures encloses { (x : Ratio) → Encloses self x → Encloses result (product_of x (value_of c)) }
     {
         let (lo, hi) = scaled_ends(self.lo, self.hi, c);
         Iv { lo, hi }
@@ -285,7 +285,7 @@ impl Iv {
         requires right { IntervalFits o OPERAND_BITS }
         ensures ends { SomeIff result (IntervalFits (times self o) OPERAND_BITS) (times self o) }
         ensures encloses { IfSome result (λ v. (x y : Ratio) → Encloses self x → Encloses o y →
-            Encloses v (product x y)) }
+            Encloses v (product_of x y)) }
     {
         let product = self.widened().whole_product(o.widened());
         if product.fits(OPERAND_BITS) {
@@ -304,7 +304,7 @@ impl Iv {
         requires right { IntervalFits o OPERAND_BITS }
         ensures ends { SomeIff result (QuotientFits self o) (divided self o) }
         ensures encloses { IfSome result (λ v. (q y : Ratio) → 0 < y.den → Encloses o y →
-            Encloses self (product q y) → Encloses v q) }
+            Encloses self (product_of q y) → Encloses v q) }
     {
         let divisor = o.widened();
         if divisor.has_zero() {

@@ -10,6 +10,7 @@ mod fraction;
 mod interval;
 mod limits;
 mod products;
+mod signs;
 mod tens;
 #[cfg(test)]
 mod tests;
@@ -23,4 +24,5 @@ pub use limits::{
     limits_are_these,
 };
 pub use products::{ceil_mul, floor_mul, mul_ends};
+pub use signs::{is_blank, signed};
 pub use whole::{whole_at, whole_is_read_exactly};

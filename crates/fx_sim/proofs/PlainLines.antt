@@ -1,11 +1,11 @@
 -- The records of plain lines, as `csv` reads them.
-use Rattle.std.proofs.Common.{◌≡◌, ◌≢◌, ◌+◌, ◌-◌, ◌≤◌, ◌<◌, ◌==◌, ◌∙◌, ℕ, zero, suc, ℤ, pos, Bool, true, false, List, []}
+use Rattle.std.proofs.Common.{◌≡◌, ◌+◌, ◌-◌, ◌≤◌, ◌<◌, ◌==◌, ◌∙◌, ℕ, zero, suc, ℤ, pos, false, List, []}
 use Rattle.std.proofs.Common.{◌∷◌, ◌++◌, length, get_or, Some, refl, sym, ap, arith, append_assoc, inl, inr, subst, length-append}
 use Rattle.std.proofs.Common.{◌⊎◌, append-nil, eq-zero-or-pos, length-set}
 use Rattle.std.proofs.Math.ListN.{set}
 use Rattle.std.specs.List.{AllByRecursion}
 use Rattle.std.proofs.lemmas.Bool.{cases_Bool, eqb-true, ne_eqb}
-use Rattle.csv.specs.Machine.{Read, line_feed, next_record}
+use Rattle.csv.specs.Machine.{line_feed, next_record}
 use Rattle.csv.specs.Reading.{default_config, records, records_from, strip_bom}
 use Rattle.csv.specs.declared.parser.State.{State}
 use Rattle.csv.specs.declared.parser.State.TheVariants as st
@@ -13,7 +13,6 @@ use Rattle.fx_code.specs.Code.{Code}
 use Rattle.fx_code.specs.Inputs.{IsMoment}
 use Rattle.fx_math.specs.Residue.{FitsBits}
 use Rattle.fx_sim.specs.Fields.{IsField}
-use Rattle.fx_sim.specs.Laws.{IsRecordOf}
 use Rattle.fx_sim.proofs.RecordsLeft.{records-more, same_records}
 use Rattle.fx_sim.specs.Plain.{comma, IsPlain, BeginsWithWord, FirstRecord, line_at}
 
@@ -112,18 +111,6 @@ pub record ColumnsRead (widths text : List ℕ) (input : List ℤ) (j : ℕ) (re
   pub begins : j ≡ 0 → rest ≡ text
   pub unmarked : 0 < j → strip_bom text ≡ text
   pub within : length rest ≤ length text
-
-pub none_read : (widths text : List ℕ) (input : List ℤ) → ColumnsRead widths text input 0 text
-none_read widths text input = record {
-  fields = [];
-  count = refl;
-  are_fields = λ k below. absurd (omega arith);
-  fit = λ k below. absurd (omega arith);
-  reads = refl;
-  begins = λ e. refl;
-  unmarked = λ some. absurd (omega arith);
-  within = omega arith;
-}
 
 -- one value more
 at_end : {A : Type 0} (xs : List A) (x d : A) → get_or (xs ++ x ∷ []) (length xs) d ≡ x

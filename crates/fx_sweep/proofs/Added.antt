@@ -1,17 +1,14 @@
 -- Sums of intervals, and products with 0.
-use Rattle.std.proofs.Common.{◌≡◌, ℕ, ◌+◌, ◌^◌, ◌<◌, ◌≤◌, arith, ap, ◌∙◌, List}
-use Rattle.std.proofs.Common.{length, set, get_or-set_same, get_or-set_other, ◌⊎◌, inl, inr}
+use Rattle.std.proofs.Common.{◌≡◌, ℕ, ◌+◌, ◌^◌, ◌<◌, ◌≤◌, arith, ap, ◌∙◌}
 use Rattle.std.proofs.Math.IntN.{ℤ, pos, ◌*ℤ◌}
 use Rattle.std.specs.Prelude.{unsigned_abs}
 use Rattle.std.proofs.lemmas.Int.{ints}
-use Rattle.std.proofs.lemmas.Bool.{cases_eq}
 use borrow.Author.Differences.{abs_is}
 use Rattle.fx_nums.specs.Arithmetic.{multiple}
 use Rattle.fx_nums.specs.Fraction.{Fraction}
 use Rattle.fx_nums.specs.Interval.{Interval, IntervalFits, plus, point}
 use Rattle.fx_nums.specs.Products.{IsRoundedProduct}
-use Rattle.fx_sweep.specs.Steps.{IsNarrow, AreNarrow, product_bound, product_apart}
-use Rattle.fx_sweep.specs.Swept.{interval_in}
+use Rattle.fx_sweep.specs.Steps.{IsNarrow, product_bound, product_apart}
 use Rattle.fx_sweep.proofs.Multiples.{multiple_nothing}
 
 -- ---- products with 0
@@ -54,12 +51,3 @@ wider x b w c v l m h = record {
   near =
       omega (arith, ints, m, h.near);
 }
-
--- one interval of a list, replaced
-pub set_narrow : (xs : List Interval) (j : ℕ) (v : Interval) (b w c u : ℕ) → j < length xs → b ≤ c → w ≤ u →
-    AreNarrow b w xs → IsNarrow c u v → AreNarrow c u (set xs j v)
-set_narrow xs j v b w c u h l m all one k = at (cases_eq k j)
-  where
-    at : (k ≡ j) ⊎ (k ≡ j → ⊥) → IsNarrow c u (interval_in (set xs j v) k)
-    at (inl e) = rw (e, get_or-set_same xs j v (point (pos 0)) h) one
-    at (inr ne) = rw (get_or-set_other xs j k v (point (pos 0)) ne) (wider _ b w c u l m (all k))

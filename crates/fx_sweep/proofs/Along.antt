@@ -144,10 +144,6 @@ pub link_here : (columns : ℕ) (link : Link) (rest : List Link) (start now : �
     IsAhead columns (link ∷ rest) start now → now link.index ≡ start link.index
 link_here columns link rest start now (from, (rises, same)) = same link.index rises.0
 
-pub link_inside : (columns : ℕ) (link : Link) (rest : List Link) (start now : ℕ → Interval) →
-    IsAhead columns (link ∷ rest) start now → link.index < columns
-link_inside columns link rest start now (from, (rises, same)) = rises.1.0
-
 pub narrow_more : (link : Link) (start now next : ℕ → Interval) (b w c v : ℕ) → now link.index ≡ start link.index →
     ((j : ℕ) → IsNarrow b w (start j)) → ((j : ℕ) → IsNarrow c v (now j)) →
     (IsNarrow b w (now link.index) → IsNarrow c v (next link.index)) →

@@ -10,7 +10,7 @@ use Rattle.fx_math.specs.Sums.{joined}
 use Rattle.fx_net.specs.Net.{Net, NetFits}
 use Rattle.fx_nums.specs.Arithmetic.{width}
 use Rattle.fx_nums.specs.Fraction.{Fraction}
-use Rattle.fx_nums.specs.Interval.{Interval, magnitude, point}
+use Rattle.fx_nums.specs.Interval.{Interval, magnitude}
 use Rattle.fx_sweep.specs.Range.{first_range}
 use Rattle.fx_sweep.specs.Steps.{IsRowAdded, greatest, places_of_row, row_places, row_value, with_multiples}
 use Rattle.fx_sweep.specs.Weights.{hand_on, settle}
@@ -45,20 +45,6 @@ pub record IsSettling (net : Net) (n i : ℕ) (start at : ℕ → Interval) (old
   pub gains_done : (r : ℕ) → i ≤ r → now_gains r ≡ old_gains r + unsigned_abs (at r).lo
   pub gains_left : (r : ℕ) → r < i → now_gains r ≡ old_gains r
   pub passed : first_range (row_value (settle net n start) old_gains) (joined (n - i) (row_places n)) ≡ None
-
-pub settling_starts : (net : Net) (n : ℕ) (at : ℕ → Interval) (widths : ℕ → ℤ) (gains : ℕ → ℕ) →
-    ((r : ℕ) → n ≤ r → at r ≡ point (pos 0)) →
-    ((r : ℕ) → n ≤ r → widths r ≡ pos 0) → ((r : ℕ) → n ≤ r → gains r ≡ 0) →
-    IsSettling net n n at at widths widths gains gains
-settling_starts net n at widths gains no_at no_widths no_gains = record {
-  left = refl;
-  small = λ r h. rw (no_at r h) (omega arith);
-  widths_done = λ r h. rw (no_at r h) (omega (arith, ints));
-  widths_left = λ r h. refl;
-  gains_done = λ r h. rw (no_at r h) (omega arith);
-  gains_left = λ r h. refl;
-  passed = let none : n - n ≡ 0 = omega arith in rw none refl;
-}
 
 -- the ranges of a row by its interval and its gain
 abbrev range_of_row : ℕ → Interval → ℕ → Option RangeAt

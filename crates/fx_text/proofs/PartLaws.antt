@@ -1,5 +1,5 @@
 -- What is read as a part of a program stands there, and what stands there is read.
-use Rattle.std.proofs.Common.{◌≡◌, ◌≤◌, ◌<◌, ◌-◌, ◌^◌, ◌==◌, ◌||◌, ℕ, min, ℤ, pos, neg_ℤ, unsigned_abs, Bool}
+use Rattle.std.proofs.Common.{◌≡◌, ◌≤◌, ◌<◌, ◌-◌, ◌^◌, ◌==◌, ℕ, min, ℤ, pos, neg_ℤ, unsigned_abs, Bool}
 use Rattle.std.proofs.Common.{true, false, List, [], ◌∷◌, codes, decimal, drop, Option, Some, None, option_map}
 use Rattle.std.proofs.Common.{Ok, refl, sym, subst, arith, rules, inl, inr}
 use Rattle.std.proofs.lemmas.Bool.{and_parts, false_from_ne_true, lt-leb}
@@ -450,9 +450,6 @@ unfolding statement_at
 statement_of_term row text at ts h =
     let t = fixed_again text at accumulator_name ts refl h in
     record { place = t.place; is = rw t.is refl; has = t.has }
-
-no_accumulator : (i : ℕ) → bytes_eq (row_letter ∷ decimal i) (codes "a") ≡ false
-no_accumulator i = refl
 
 pub statement_of_store : (row : ℕ) (text : List ℕ) (at : ℕ) (ts : List Lexeme) → row < 40 →
     HasLexemes (drop at text) (row_name row ∷ ts) → After (statement_at row text at) (λ e. (false, e)) text ts
