@@ -1,5 +1,5 @@
 -- Where a sweep's gain, or its first range, comes from.
-use Rattle.std.proofs.Common.{◌≡◌, ◌∙◌, ℕ, zero, suc, ◌+◌, ◌-◌, ◌<◌, Option, Some, None, Ok, Err, refl, sym, ap}
+use Rattle.std.proofs.Common.{◌≡◌, ◌∙◌, ℕ, zero, suc, ◌+◌, ◌-◌, ◌<◌, Some, None, Ok, Err, refl, sym, ap}
 use Rattle.std.proofs.Common.{subst, arith}
 use Rattle.fx_nums.specs.Interval.{Interval}
 use Rattle.fx_net.specs.Net.{Net}

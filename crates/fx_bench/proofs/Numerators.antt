@@ -1,5 +1,5 @@
 -- The numerators of a recipe are small.
-use Rattle.std.proofs.Common.{◌≡◌, ℕ, zero, ◌+◌, ◌-◌, ◌*◌, ◌/◌, ◌%◌, ◌^◌, ◌<◌, ◌≤◌, pos, sym, subst, lit<}
+use Rattle.std.proofs.Common.{◌≡◌, ℕ, ◌+◌, ◌-◌, ◌*◌, ◌%◌, ◌^◌, ◌<◌, ◌≤◌, pos, sym, subst, lit<}
 use Rattle.std.proofs.Common.{arith, pow-add}
 use Rattle.std.proofs.Math.Nat.{mod-lt, one-le-pow, div-le_self, mul-le-mul_right, pow-le-pow_right}
 use Rattle.fx_nums.specs.Fraction.{FractionFits}

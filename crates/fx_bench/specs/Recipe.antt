@@ -1,5 +1,5 @@
 -- Nets by a recipe.
-use Rattle.std.specs.Prelude.{ℕ, zero, suc, ◌+◌, ◌-◌, ◌*◌, ◌/◌, ◌%◌, ◌^◌, ◌<◌, ◌≤◌, min, pos}
+use Rattle.std.specs.Prelude.{ℕ, zero, suc, ◌+◌, ◌-◌, ◌*◌, ◌/◌, ◌%◌, ◌^◌, ◌≤◌, min, pos}
 use Rattle.fx_math.specs.Sums.{sum_below}
 use Rattle.fx_nums.specs.Fraction.{Fraction}
 use Rattle.fx_nums.specs.declared.fraction.Den.TheVariants.{Ten}

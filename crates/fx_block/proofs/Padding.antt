@@ -1,6 +1,6 @@
 -- The net of bare rows and, behind them, the expanded rows of equations, with empty rows behind both.
 use Rattle.std.proofs.Common.{◌≡◌, ℕ, zero, suc, ◌+◌, ◌-◌, ◌<◌, ◌≤◌, false, List, [], ◌∷◌, ◌++◌, length, map, All}
-use Rattle.std.proofs.Common.{filter, eqb, get_or, arith, refl, ap, sym, ◌∙◌, subst, inl, inr}
+use Rattle.std.proofs.Common.{filter, eqb, get_or, arith, refl, ap, ◌∙◌, inl, inr}
 use Rattle.std.specs.Prelude.{⊤}
 use Rattle.std.proofs.lemmas.Bool.{cases_lt, cond-false, cond_both, ne_eqb, and_right, le-ltb}
 use Rattle.std.proofs.lemmas.List.{get_or_default, get_or_past, length-map}

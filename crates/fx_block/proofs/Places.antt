@@ -35,6 +35,9 @@ listed_at (suc n) f t d l =
           ∙ get_or-append-add (listed n f) (f n ∷ []) 0 d ∙ ap f (let e : n ≡ t = omega arith in e)
     ]
 
+pub listed_next : {A : Type 0} (n : ℕ) (f : ℕ → A) → listed (n + 1) f ≡ listed n f ++ f n ∷ []
+listed_next n f = ap (λ m. listed m f) (add-one n)
+
 -- ---- arrays with the first of f
 
 pub first_more : {A : Type 0} (d : A) (xs : List A) (t : ℕ) (x : A) (f : ℕ → A) → t < length xs →

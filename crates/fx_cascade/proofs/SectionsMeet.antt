@@ -22,7 +22,7 @@ use Rattle.fx_sif.proofs.LagSums.{TermsSuit, kept_whole, lag_sum, lag_sum-back, 
 use Rattle.fx_sif.proofs.LagSums.{lag_sum-other_recursion, lag_sum-recursion, recursion_suits, sequence}
 use Rattle.fx_sif.proofs.OneScale.{no_weight, weight}
 use Rattle.fx_sif.proofs.Recursion.{MeetsAt, fed_back}
-use Rattle.fx_sif.proofs.SystemsFit.{system_fits}
+use Rattle.fx_eqs.proofs.SystemsFit.{system_fits}
 use Rattle.fx_sif.proofs.Uniqueness.{same_sequence}
 use Rattle.fx_cascade.specs.Sections.{SectionsFit, count_of, b0, b1, b2, a1, a2}
 use Rattle.fx_cascade.proofs.NeverRefused.{count_fits}

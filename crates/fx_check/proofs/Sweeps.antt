@@ -3,9 +3,7 @@ use Rattle.std.proofs.Common.{◌≡◌, ℕ, zero, suc, ◌+◌, ◌-◌, ◌<�
 use Rattle.std.proofs.Common.{inl, inr}
 use Rattle.std.specs.Prelude.{Option, Some, None, option_map, pos, ◌^◌, ℤ, List}
 use Rattle.std.specs.Option.{option_or}
-use Rattle.std.specs.Prelude.{unsigned_abs}
 use Rattle.std.proofs.lemmas.Bool.{cases_lt}
-use Rattle.std.proofs.lemmas.List.{get_or_past}
 use Rattle.fx_nums.specs.declared.limits.TheConstants.{OPERAND_BITS}
 use Rattle.fx_eqs.specs.Fits.{EquationsFit}
 use Rattle.fx_files.specs.Filter.{Filter}
@@ -29,7 +27,8 @@ use Rattle.fx_error.specs.PartsOf.{ArePartsOf}
 use Rattle.fx_error.specs.declared.parts.Parts.{Parts}
 use Rattle.fx_block.specs.Failure.{Failure, first_of, out_of_range, range_failure}
 use Rattle.fx_block.specs.Formats.{bound_of}
-use Rattle.fx_block.specs.Passes.{bound_at, judged_net, pair_of, pair_range, pair_total, row_count, row_range, row_total}
+use Rattle.fx_block.specs.Passes.{bound_at, judged_net, pair_of, pair_range, pair_total, row_count, row_range}
+use Rattle.fx_block.specs.Passes.{row_total}
 use Rattle.fx_block.specs.declared.inequality.Inequality.TheVariants.{Sweep}
 use Rattle.fx_check.specs.Report.{parts_at}
 use Rattle.fx_check.specs.Targets.{HasTotals, length_at, lengths_of, padded_net, target_at, target_count, targets_of}
@@ -212,17 +211,13 @@ module _ (filter : Filter) (p : Code) (c : Certificate) (kept : FilterFits filte
 
     -- ---- parts
 
-    longer : (judged_net filter p).rows ≤ (padded_net n filter p).rows
-    unfolding put_rows
-    longer = room
-
     -- the parts in the padded net are those in the net of program and filter
-    pub parts_told : length c.bounds ≡ row_count filter p → (o : ℕ) → o < length filter.outputs → (parts : Parts) →
+    pub parts_told : (o : ℕ) → o < length filter.outputs → (parts : Parts) →
         ArePartsOf (padded_net n filter p)
         (start_of (target_in (targets_of filter p) (row_count filter p + o)))
         (length_in (lengths_of filter p c) (row_count filter p + o)) (bound_of filter) (bound_at c) parts →
         parts ≡ parts_at filter p c o
-    parts_told count o l parts h =
+    parts_told o l parts h =
         let t = row_count filter p + o in
         let inside : t < target_count filter p = omega (arith, l) in
         let target : target_in (targets_of filter p) t ≡ pair_of filter p o =
@@ -234,8 +229,4 @@ module _ (filter : Filter) (p : Code) (c : Certificate) (kept : FilterFits filte
         subst (λ (target : Target). HasSameNumbers (judged_net filter p) (padded_net n filter p) (start_of target)
         (output_length c o)) (target_pair filter p t o refl) (same_numbers t (output_length c o) inside) in
         parts_are (judged_net filter p) (padded_net n filter p) (start_of (pair_of filter p o)) (output_length c o)
-        (bound_of filter) (bound_at c) same longer none parts (rw (target, moments) at h)
-      where
-        none : (i : ℕ) → (judged_net filter p).rows ≤ i → bound_at c i ≡ 0
-        none i past =
-            ap (λ (z : ℤ). unsigned_abs z) (get_or_past c.bounds i (pos 0) (omega (arith, rows_are, count, past)))
+        (bound_of filter) (bound_at c) same parts (rw (target, moments) at h)

@@ -1,7 +1,7 @@
 -- What a program's tests refuse not, fits; and what fits, they refuse not.
 use Rattle.std.proofs.Common.{◌≡◌, ℕ, ◌+◌, ◌-◌, ◌^◌, ◌<◌, ◌≤◌, ◌∙◌, min, Bool, true, false, IsTrue, not, ◌||◌}
 use Rattle.std.proofs.Common.{eqb, List, [], ◌∷◌, ◌++◌, length, All, Option, None, refl, arith, unsigned_abs}
-use Rattle.std.proofs.Common.{nat_lt, nat_le, slice_index_or, inl, inr, append_assoc, length-append}
+use Rattle.std.proofs.Common.{nat_lt, slice_index_or, inl, inr, append_assoc, length-append}
 use Rattle.std.specs.List.{IsDistinct, AllByRecursion, list_any}
 use Rattle.std.proofs.lemmas.Bool.{cases_lt, or_parts, or_from, ltb-false, le-ltb, lt-leb}
 use Rattle.std.proofs.lemmas.Bool.Decides.{nat_tests}

@@ -1,12 +1,11 @@
 -- A common denominator of a program's rows and of the expanded rows of an equation system.
 use Rattle.std.proofs.Common.{◌≡◌, ℕ, zero, suc, ◌-◌, ◌+◌, ◌*◌, ◌/◌, ◌^◌, ◌<◌, ◌≤◌, List, [], ◌∷◌, map, length}
 use Rattle.std.proofs.Common.{get_or, All, arith, ap, ◌∙◌, sym, subst}
-use Rattle.std.proofs.Math.Nat.{mul-div_left, one-le-pow}
+use Rattle.std.proofs.Math.Nat.{mul-div_left}
 use Rattle.std.proofs.lemmas.Nat.{pow-add, pow_pos}
 use Rattle.std.proofs.lemmas.List.Elements.{All-nil, All-cons, All-head, All-tail}
 use Rattle.fx_nums.specs.Fraction.{Fraction, den_value, IsWholeOver}
-use Rattle.fx_nums.specs.declared.fraction.Den.{Den}
-use Rattle.fx_nums.specs.declared.fraction.Den.TheVariants.{Two, Ten}
+use Rattle.fx_nums.proofs.Denominators.{den_positive}
 use Rattle.fx_eqs.specs.Denominator.{DividesEach, common}
 use Rattle.fx_eqs.specs.Expanded.{NetTerm, expanded}
 use Rattle.fx_eqs.specs.Laws.{CommonDividesEach}
@@ -26,10 +25,6 @@ use Rattle.fx_code.specs.declared.term.CodeTerm.{CodeTerm}
 multiple : (d m n : ℕ) → 0 < d → n ≡ d * m → d * (n / d) ≡ n
 multiple d m n h e = let whole : m * d / d ≡ m = mul-div_left m h in let same : n ≡ m * d =
     omega (arith, e) in rw same (rw whole (omega arith))
-
-den_positive : (d : Den) → 0 < den_value d
-den_positive (Two e) = one-le-pow e 2 (omega arith)
-den_positive (Ten d) = one-le-pow d 10 (omega arith)
 
 whole_further : (g m : ℕ) (c : Fraction) → IsWholeOver g c → IsWholeOver (g * m) c
 whole_further g m c h =

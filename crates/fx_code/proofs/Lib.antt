@@ -5,6 +5,6 @@ mod Kept
 pub mod LaterInputs
 mod NetRun
 mod NetTerms
-mod Placing
+pub mod Placing
 mod Whole
 pub mod Words

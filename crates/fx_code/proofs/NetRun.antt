@@ -1,6 +1,6 @@
 -- In a net that holds a program, numbers that are floored as words are, and so words, are a perturbed run of its rows.
 use Rattle.std.proofs.Common.{◌≡◌, ℕ, zero, suc, ◌+◌, ◌-◌, ◌*◌, ◌^◌, ◌<◌, ◌≤◌, List, [], ◌∷◌, map, length}
-use Rattle.std.proofs.Common.{get_or, arith, refl, ap, ap₂, sym, ◌∙◌, subst, inl, inr, eqb, false}
+use Rattle.std.proofs.Common.{get_or, arith, refl, ap, ap₂, sym, ◌∙◌, subst, eqb, false}
 use Rattle.std.proofs.Math.IntN.{ℤ, pos, ◌+ℤ◌, ◌-ℤ◌, ◌*ℤ◌, neg_ℤ}
 use Rattle.std.specs.Prelude.{unsigned_abs}
 use Rattle.std.proofs.lemmas.Int.{ints, unsigned_abs-mul}

@@ -31,7 +31,7 @@ fraction_fits t shift w e h f =
     let scaled : unsigned_abs (weight t) < 2 ^ 24 * 2 ^ shift = omega (arith, f.scaled, pow-add 2 24 shift) in
     rw e (record { den_fits = h; num_fits = f.product; value_fits = scaled })
 
-source_fits : (n at i inputs rows : ℕ) (from : Read) → SourceFits i inputs from → OldIsThere rows from →
+pub source_fits : (n at i inputs rows : ℕ) (from : Read) → SourceFits i inputs from → OldIsThere rows from →
     inputs ≤ PORTS → at + rows ≤ n → ReadFits n at i (net_read from)
 source_fits n at i inputs rows (Now j) source there few room = source
 source_fits n at i inputs rows (Old j) source there few room = omega arith
@@ -58,7 +58,7 @@ bare_is (row ∷ rows) zero = refl
 bare_is (row ∷ rows) (suc i) = bare_is rows i
 
 -- rows that are put leave the classes of a net whose rows were empty, and its other rows
-rows_put : (rows : List BareRow) (at count : ℕ) (net put : Net) → count ≡ length rows →
+pub rows_put : (rows : List BareRow) (at count : ℕ) (net put : Net) → count ≡ length rows →
     put ≡ put_each at 0 (map net_row rows) net → AreEmpty at count net →
     record put { class = put_classes (classes_of rows) at count put.class } ≡ put_bare_rows rows at net
 unfolding put_rows

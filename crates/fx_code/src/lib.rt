@@ -20,5 +20,6 @@ pub use laws::{
 pub use limits::{
     CODE_ROWS, CODE_TERMS, COEFFICIENT_BITS, LONGEST_SHIFT, PRODUCT_BITS, code_limits_are_these,
 };
+pub use net_rows::put_term;
 pub use program::{Program, programs_fit};
 pub use term::{CodeTerm, Read, reads_source};

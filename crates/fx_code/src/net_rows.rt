@@ -11,8 +11,9 @@ use crate::term::{CodeTerm, Read};
 use fx_net::Net;
 use fx_nums::{Den, Frac};
 
-// Puts a term of row `row` of those from `at` on.
-fn put_term<const N: usize>(net: &mut Net<N>, at: usize, row: usize, shift: u8, term: &CodeTerm)
+/// Puts a term of row `row` of those from `at` on into a net: its weight over 2 to the power of the row's right
+/// shift, at the source that it reads.
+pub fn put_term<const N: usize>(net: &mut Net<N>, at: usize, row: usize, shift: u8, term: &CodeTerm)
     requires row { at + row < N }
     requires shift { shift ≤ LONGEST_SHIFT }
     requires fits { TermFits shift term.now }

@@ -1,4 +1,4 @@
-use crate::{CodeTerm, LimitOf, Program, ProgramFault, Read};
+use crate::{CodeTerm, LimitOf, Program, ProgramFault, Read, put_term};
 use fx_net::Net;
 use fx_nums::{Den, Frac};
 use std::alloc::{AllocError, Global};
@@ -136,6 +136,19 @@ fn a_program_is_put_into_a_net(rt: HostRuntime) -> Result<(), Fail> {
     assert_eq!(rt; Some(net.now(3, 2)), Frac::new(1, Den::Two(0)));
     assert_eq!(rt; net.halves(3), 0);
     assert_eq!(rt; Some(net.old(2, 2)), Frac::new(0, Den::Ten(0)));
+    Ok(())
+}
+
+#[test]
+fn a_term_is_put_into_a_net(rt: HostRuntime) -> Result<(), Fail> {
+    let mut net: Net<8> = Net::new(rt.alloc())?;
+    let three = CodeTerm {
+        coef: 3,
+        from: Read::Now(0),
+        left: 0,
+    };
+    put_term(&mut net, 2, 1, 1, &three);
+    assert_eq!(rt; Some(net.now(3, 2)), Frac::new(3, Den::Two(1)));
     Ok(())
 }
 

@@ -8,7 +8,6 @@ use Rattle.std.proofs.lemmas.List.{get_or_read, length-map}
 use Rattle.std.proofs.lemmas.List.Sums.{sum_by-cons, sum_by-set, count_by-le-length}
 use Rattle.fx_nums.specs.Fraction.{Fraction, zero_fraction}
 use Rattle.fx_cross.specs.declared.cell.Cell.{Cell}
-use Rattle.fx_cross.specs.declared.cross.Link.{Link}
 use Rattle.fx_cross.specs.Table.{Table, spot, entry_at, place_at, nonzero_count, HasPlaces}
 use Rattle.fx_cross.specs.Walks.{Line, row_line, column_line, link_at, IsFirstFrom, AreZeroFrom}
 use Rattle.fx_cross.specs.Cells.{no_cell, cell_of, row_of, column_of, right_of, down_of, coef_of, table_of}

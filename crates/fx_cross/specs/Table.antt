@@ -1,5 +1,5 @@
 -- Sparse tables as their dense tables: an entry and a place for each row and column.
-use Rattle.std.specs.Prelude.{◌≡◌, ℕ, ◌+◌, ◌*◌, ◌<◌, ◌≤◌, ◌==◌, ◌&&◌, cond, nat_lt, not, unsigned_abs}
+use Rattle.std.specs.Prelude.{◌≡◌, ℕ, ◌+◌, ◌*◌, ◌<◌, ◌≤◌, ◌&&◌, cond, nat_lt, not, unsigned_abs}
 use Rattle.std.specs.Prelude.{List, slice_index_or}
 use Rattle.std.specs.List.{count_by}
 use Rattle.fx_math.specs.Sums.{sum_below}

@@ -21,8 +21,8 @@ ghost use Rattle.fx_decimal.specs.Numeral.{after_digits, digits_value, exponent_
 
 use crate::fault::DecimalFault;
 use crate::limits::GREATEST_EXPONENT;
-use crate::value::{Kept, clipped, kept_digits, limited, signed};
-use fx_nums::Frac;
+use crate::value::{Kept, clipped, kept_digits, limited};
+use fx_nums::{Frac, signed};
 
 // Whether a minus stands first, and what follows the sign.
 fn sign(text: &[u8]) -> (bool, &[u8])

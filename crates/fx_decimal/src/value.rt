@@ -2,13 +2,13 @@
 
 ghost use Rattle.std.specs.Prelude.{◌≡◌, ◌≤◌, ◌<◌, ◌+◌, ◌*◌, ◌^◌, min, length, pos, ◌+ℤ◌, ◌≤ℤ◌, neg_ℤ, unsigned_abs};
 ghost use Rattle.std.specs.List.{AllByRecursion};
-ghost use Rattle.fx_nums.specs.Signs.{IsDigit, number_from, signed};
+ghost use Rattle.fx_nums.specs.Signs.{IsDigit, number_from};
 ghost use Rattle.fx_decimal.specs.Numeral.{bounded, limited, scaled};
 ghost use Rattle.fx_decimal.specs.Kept.{kept_from};
 
 use crate::fault::DecimalFault;
 use crate::limits::{GREATEST_EXPONENT, MOST_DIGITS, TOO_MANY};
-use fx_nums::{Den, Frac, GREATEST_TEN, VALUE_BITS};
+use fx_nums::{Den, Frac, GREATEST_TEN, VALUE_BITS, signed};
 
 // Ten to a greater power is no fraction.
 const GREATEST_POWER: u128 = 7;
@@ -70,15 +70,6 @@ pub fn clipped(digits: &[u8]) -> u64
         number = (10 * number + u64::from(*digit - b'0')).min(GREATEST_EXPONENT);
     }
     number
-}
-
-/// The number with this sign.
-pub fn signed(negative: bool, number: u64) -> i64
-    requires { number < 10 ^ MOST_DIGITS }
-    ensures { result ≡ signed negative number }
-{
-    let magnitude = number as i64;
-    if negative { -magnitude } else { magnitude }
 }
 
 // The fraction over this power of ten, where it is below the limit of a fraction.

@@ -19,7 +19,7 @@ use Rattle.fx_sif.proofs.EquationsAtScale.{EquationsMeet}
 use Rattle.fx_sif.proofs.LagSums.{kept_whole, lag_sum-kept, lag_sum-recursion, recursion_suits}
 use Rattle.fx_sif.proofs.OneScale.{RowsMeet, no_weight, weight}
 use Rattle.fx_sif.proofs.Recursion.{MeetsAt, fed_back}
-use Rattle.fx_sif.proofs.SystemsFit.{system_fits}
+use Rattle.fx_eqs.proofs.SystemsFit.{system_fits}
 use Rattle.fx_sif.proofs.Uniqueness.{same_sequence}
 
 -- the one output's row

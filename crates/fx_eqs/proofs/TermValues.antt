@@ -1,6 +1,6 @@
 -- Sums of terms as values.
-use Rattle.std.proofs.Common.{◌≡◌, ℕ, zero, suc, ◌+◌, ◌-◌, ◌*◌, ◌/◌, ◌^◌, ◌<◌, ◌≤◌, Bool, true, false, cond}
-use Rattle.std.proofs.Common.{not, eqb, if◌then◌else◌, List, [], ◌∷◌, ◌++◌, map, drop, filter, All, refl, arith}
+use Rattle.std.proofs.Common.{◌≡◌, ℕ, zero, suc, ◌+◌, ◌-◌, ◌*◌, ◌/◌, ◌^◌, ◌<◌, Bool, true, false, cond}
+use Rattle.std.proofs.Common.{not, eqb, if◌then◌else◌, List, [], ◌∷◌, ◌++◌, map, drop, All, refl, arith}
 use Rattle.std.proofs.Common.{ap, ap₂, sym, subst, ◌∙◌}
 use Rattle.std.proofs.Math.IntN.{ℤ, pos, neg_ℤ, ◌+ℤ◌, ◌-ℤ◌, ◌*ℤ◌}
 use Rattle.std.proofs.Math.Nat.{pow-suc}
@@ -12,7 +12,7 @@ use Rattle.std.proofs.lemmas.List.Elements.{All-nil, All-cons, All-head, All-tai
 use Rattle.fx_math.specs.Ratio.{difference_of, product_of, Ratio, SameValue, sum_of, whole}
 use Rattle.fx_math.specs.Unroll.{lagged}
 use Rattle.fx_math.proofs.Lines.{swapped}
-use Rattle.fx_math.proofs.Polynomials.{Poly, int, nat, mul, same_value}
+use Rattle.fx_math.proofs.Polynomials.{int, nat, mul, same_value}
 use Rattle.fx_math.proofs.Ring.{add-mul, neg-mul, mul_assoc}
 use Rattle.fx_nums.specs.Fraction.{den_value, Fraction, IsWholeOver, minus, over, value_of}
 use Rattle.fx_eqs.specs.Equations.{Equations, is_kept, kept}

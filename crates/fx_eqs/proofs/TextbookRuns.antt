@@ -1,8 +1,8 @@
 -- The exact runs of the four forms meet what a textbook prints.
 use Rattle.std.proofs.Common.{◌≡◌, ◌⊎◌, ℕ, zero, suc, ◌+◌, ◌-◌, ◌*◌, ◌/◌, ◌<◌, ◌≤◌, eqb, List, [], ◌∷◌, ◌++◌}
-use Rattle.std.proofs.Common.{length, take, drop, map, All, refl, arith, ap, ap₂, sym, subst, inl, inr, lit<}
+use Rattle.std.proofs.Common.{length, take, drop, map, All, refl, arith, ap, sym, subst, inl, inr, lit<}
 use Rattle.std.proofs.Common.{lit≤, ◌∙◌}
-use Rattle.std.proofs.Math.IntN.{ℤ, pos, neg_ℤ, ◌+ℤ◌, ◌*ℤ◌}
+use Rattle.std.proofs.Math.IntN.{ℤ, pos, ◌*ℤ◌}
 use Rattle.std.proofs.lemmas.Bool.{cond-false, cond-true, eq-eqb, ne_eqb}
 use Rattle.std.proofs.lemmas.Int.{ints}
 use Rattle.std.proofs.lemmas.List.{drop-drop}
@@ -17,13 +17,12 @@ use Rattle.fx_eqs.specs.Textbook.{lattice_terms, matrix_rows, over_lags, over_so
 use Rattle.fx_eqs.specs.Textbook.{sos_equations, sos_terms, ss_equations, ss_terms, summand, tf_equations}
 use Rattle.fx_eqs.specs.Textbook.{tf_terms, up_from}
 use Rattle.fx_eqs.specs.TextbookRuns.{CascadeRuns, LatticeRuns, StateSpaceRuns, TransferRuns, denominator_of}
-use Rattle.fx_eqs.specs.TextbookRuns.{matrix_row, numerator_of, reflection, section_source, source_values}
+use Rattle.fx_eqs.specs.TextbookRuns.{numerator_of, reflection, section_source, source_values}
 use Rattle.fx_eqs.specs.Values.{over_numbers}
-use Rattle.fx_eqs.specs.declared.limits.TheConstants.{COEFFICIENTS, PORTS, REFLECTIONS, SECTIONS, STATES}
 use Rattle.fx_eqs.specs.declared.term.Source.{Source}
 use Rattle.fx_eqs.specs.declared.term.Source.TheVariants.{Row, In}
 use Rattle.fx_eqs.specs.declared.term.Term.{Term}
-use Rattle.fx_eqs.proofs.Kept.{system_fits}
+use Rattle.fx_eqs.proofs.SystemsFit.{system_fits}
 use Rattle.fx_eqs.proofs.Lattices.{lattice_has_no_fault}
 use Rattle.fx_eqs.proofs.Matrices.{ss_has_no_fault}
 use Rattle.fx_eqs.proofs.Recursions.{sos_has_no_fault, tf_has_no_fault}

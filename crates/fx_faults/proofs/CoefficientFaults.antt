@@ -19,7 +19,7 @@ use Rattle.fx_files.specs.declared.forms.Form.{Form}
 use Rattle.fx_files.proofs.Steps.{bind_ok, same_ok, test_err, in_step, some_and, and_some}
 use Rattle.fx_files.proofs.HeldNumerals.{IsListed, entries_listed, rows_listed}
 use Rattle.fx_faults.specs.Kinds as kind
-use Rattle.fx_faults.specs.Kinds.{Kind, ListOf, kind_of, HasKind, IsOfWholes, IsOfNumerals, entries_of, listed}
+use Rattle.fx_faults.specs.Kinds.{ListOf, kind_of, entries_of, listed}
 use Rattle.fx_faults.specs.Places.{HasEntry, HasCount, IsFixedCount, IsFixedWidth}
 use Rattle.fx_faults.specs.Faults.{IsRequired}
 use Rattle.fx_faults.specs.Faults.{IsTrueOf}
@@ -200,7 +200,8 @@ cascade_true file f named h =
     (λ vs got past_got.
     let list = rows_listed k file vs got in
     in_step (some k vs) _ f past_got (some_true file k vs f (λ e. absurd cc) (count_at file k vs list))
-    (λ u any past_any. in_step (at_most k vs) _ f past_any (most_true file k (ListOf kind.Numeral) vs f of list (lit≤ tt))
+    (λ u any past_any. in_step (at_most k vs) _ f past_any (most_true file k (ListOf kind.Numeral) vs f of list
+        (lit≤ tt))
     (λ u few past_few. in_step (matrix k SECTION_COEFFICIENTS vs) _ f past_few
     (matrix_true file k SECTION_COEFFICIENTS vs f of list refl)
     (λ cs read past_read. in_step (each_monic k 0 cs) _ f past_read
@@ -241,7 +242,8 @@ states_true file f named of h =
     (λ vs got past_got.
     let list = rows_listed k file vs got in
     in_step (some k vs) _ f past_got (some_true file k vs f (λ e. absurd cc) (count_at file k vs list))
-    (λ u any past_any. in_step (at_most k vs) _ f past_any (most_true file k (ListOf kind.Numeral) vs f of list (lit≤ tt))
+    (λ u any past_any. in_step (at_most k vs) _ f past_any (most_true file k (ListOf kind.Numeral) vs f of list
+        (lit≤ tt))
     (λ u few past_few. absurd cc)))
 
 states_at : (file : Members) (vs : Items) → state_rows file ≡ Ok vs → IsListed key.MatA file vs

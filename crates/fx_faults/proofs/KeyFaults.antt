@@ -27,7 +27,7 @@ use Rattle.fx_files.specs.declared.forms.Form.{Form}
 use Rattle.fx_files.proofs.Steps.{fault_ok, fault_err, test_err, in_step, and_some}
 use Rattle.fx_files.proofs.HeldNumerals.{IsListed}
 use Rattle.fx_faults.specs.Kinds as kind
-use Rattle.fx_faults.specs.Kinds.{Kind, ListOf, kind_of, HasKind, IsOfWholes, IsOfNumerals, entries_of, listed}
+use Rattle.fx_faults.specs.Kinds.{Kind, ListOf, kind_of, HasKind, IsOfNumerals, entries_of, listed}
 use Rattle.fx_faults.specs.Places.{IsTableAt, HasValue, HasEntry, HasCount, IsFixedCount, IsFixedWidth}
 use Rattle.fx_faults.specs.Faults.{IsRequired, IsNoNumeral, IsOutOfRange, IsTooLong, IsPastLimit}
 use Rattle.fx_faults.specs.Faults.{IsTrueOf}

@@ -23,7 +23,7 @@ use Rattle.fx_files.proofs.Steps.{fault_ok, fault_err, in_step}
 use Rattle.fx_files.proofs.HeldNumbers.{sure_yes, integer_read}
 use Rattle.fx_files.proofs.HeldNumerals.{IsListed}
 use Rattle.fx_faults.specs.Kinds as kind
-use Rattle.fx_faults.specs.Kinds.{Kind, ListOf, kind_of, HasKind, IsOfWholes, IsOfNumerals, entries_of, listed}
+use Rattle.fx_faults.specs.Kinds.{Kind, ListOf, kind_of, HasKind, IsOfWholes, entries_of, listed}
 use Rattle.fx_faults.specs.Places.{IsTableAt}
 use Rattle.fx_faults.specs.Faults.{IsRequired, IsPast, IsRangeOf, IsOutOfRange, IsPastLimit}
 use Rattle.fx_faults.specs.Faults.{IsTrueOf}

@@ -23,7 +23,7 @@ use Rattle.fx_files.proofs.HeldNumbers.{sure_yes}
 use Rattle.fx_files.proofs.HeldNumerals.{IsListed}
 use Rattle.fx_files.proofs.HeldTables.{tables_listed}
 use Rattle.fx_faults.specs.Kinds as kind
-use Rattle.fx_faults.specs.Kinds.{Kind, ListOf, kind_of, HasKind, IsOfWholes, IsOfNumerals, entries_of, listed}
+use Rattle.fx_faults.specs.Kinds.{HasKind}
 use Rattle.fx_faults.specs.Places.{IsTableAt, HasValue}
 use Rattle.fx_faults.specs.Faults.{IsRequired}
 use Rattle.fx_faults.specs.Faults.{IsTrueOf}
@@ -181,7 +181,8 @@ error_true file n t f stands h =
     (λ wrong. numeral_fault key.OutputsError n v f wrong
     (λ other e. kind_true file key.OutputsError kind.Numeral n v f held refl other e)
     (bad_true file key.OutputsError n v f tt held))
-    (λ c means past_means. in_step (unless (Limit key.OutputsError (pos n) (pos 0)) (not (lt_z c.num (pos 0)))) _ f past_means
+    (λ c means past_means. in_step (unless (Limit key.OutputsError (pos n) (pos 0)) (not (lt_z c.num (pos 0))))
+        _ f past_means
     (λ wrong. let (test, e) = test_err (Limit key.OutputsError (pos n) (pos 0)) f (not (lt_z c.num (pos 0))) wrong in
     subst (IsTrueOf file) e
     (record {
@@ -221,7 +222,8 @@ output_true file form low n t f named within stands h =
       ranged = refl;
       past = λ got limit x. inl x;
     }))
-    (λ z held past_held. in_step (error_in n t) _ f past_held (error_true file n t f stands) (λ error off past_off. absurd cc))))
+    (λ z held past_held. in_step (error_in n t) _ f past_held (error_true file n t f stands)
+        (λ error off past_off. absurd cc))))
 
 output_fault : {W : Type 0} (low : ℤ) (place : ℕ) (vs : Items) (f : FilterFault) → each_output low place vs ≡ Err f →
     ((n : ℕ) (x : Data) → get_item n vs ≡ Some x → ¬ HasKind kind.Table x → WrongKind key.Outputs ≡ f → W) →

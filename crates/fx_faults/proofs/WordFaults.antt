@@ -18,18 +18,15 @@ use Rattle.fx_files.specs.Holds.{value_at}
 use Rattle.fx_files.specs.declared.forms.Form.{Form}
 use Rattle.fx_files.proofs.Steps.{bind_ok, fault_ok, fault_err, in_step, and_some}
 use Rattle.fx_faults.specs.Kinds as kind
-use Rattle.fx_faults.specs.Kinds.{Kind, ListOf, kind_of, HasKind, IsOfWholes, IsOfNumerals, entries_of, listed}
+use Rattle.fx_faults.specs.Kinds.{kind_of}
 use Rattle.fx_faults.specs.Places.{IsTableAt}
 use Rattle.fx_faults.specs.Faults.{IsTrueOf}
 use Rattle.fx_faults.proofs.Listed.{is_nothing}
 use Rattle.std.specs.Prelude.{All, codes}
-use Rattle.std.specs.Ordering.{match_ordering}
-use Rattle.std.specs.Cmp.{Equal-is}
 use Rattle.std.specs.Cmp.Lexicographic.{slice_cmp}
 use Rattle.std.specs.Str.{bytes_eq}
-use Rattle.std.proofs.Common.{nat_cmp, Ordering, Less, Equal, Greater}
+use Rattle.std.proofs.Common.{nat_cmp}
 use Rattle.std.proofs.lemmas.List.Elements.{All-nil, All-cons}
-use Rattle.std.proofs.lemmas.Map.Text.{is_eq-slice_cmp}
 use Rattle.std.proofs.lemmas.Slice.Eq.{bytes_eq-Decides}
 use Rattle.toml.specs.Data.{no_members, member, get_member, as_str}
 use Rattle.fx_keys.specs.Table.{is_known, only_keys}
@@ -40,7 +37,7 @@ use Rattle.fx_files.specs.Head.{form_in, head_in}
 use Rattle.fx_files.specs.Settings.{structure_at, structure_in}
 use Rattle.fx_files.specs.declared.forms.Structure.{Structure}
 use Rattle.fx_files.proofs.HeldChoices.{form_is}
-use Rattle.fx_files.proofs.HeldTables.{found_later, same_itself}
+use Rattle.fx_keys.proofs.Ascending.{found_later, same_itself}
 use Rattle.fx_faults.specs.Faults.{words_of}
 use Rattle.fx_faults.specs.Places.{keys_in}
 use Rattle.fx_faults.proofs.Listed.{is_string}

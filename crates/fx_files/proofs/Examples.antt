@@ -1,8 +1,8 @@
 -- The tables of example filters, and the filters that they describe.
-use Rattle.std.proofs.Common.{◌≡◌, ℕ, ℤ, pos, negsuc, List, [], ◌∷◌, Ok, lit<, refl}
+use Rattle.std.proofs.Common.{◌≡◌, pos, negsuc, [], ◌∷◌, Ok, lit<, refl}
 use Rattle.std.proofs.lemmas.Fmt.{decimal_digit}
 use Rattle.std.specs.Prelude.{codes}
-use Rattle.toml.specs.Data.{Data, string, integer, array, table, Members, no_members, member, no_items, item}
+use Rattle.toml.specs.Data.{string, integer, array, table, Members, no_members, member, no_items, item}
 use Rattle.fx_nums.specs.declared.fraction.Den.TheVariants.{Ten}
 use Rattle.fx_decimal.specs.Faults.{numeral, parts_in, exponent_in}
 use Rattle.fx_decimal.specs.Numeral.{digits_value}

@@ -1,15 +1,13 @@
 -- The filter of sections and a plan is that of every file with these values.
-use Rattle.std.proofs.Common.{◌≡◌, ◌∙◌, ℕ, ◌/◌, List, [], ◌∷◌, length, map, refl, ap, sym, subst, arith, All, IfOk}
+use Rattle.std.proofs.Common.{◌≡◌, ◌∙◌, List, [], ◌∷◌, length, refl, ap, sym, subst, arith, All, IfOk}
 use Rattle.std.proofs.Common.{Result, Ok, Err}
 use Rattle.std.proofs.lemmas.List.Elements.{All-nil, All-cons}
 use Rattle.fx_nums.specs.Fraction.{Fraction, OverTen, one_fraction}
 use Rattle.fx_files.specs.Lists.{each_monic}
-use Rattle.fx_eqs.specs.Equations.{Equations}
 use Rattle.fx_files.specs.Building.{assembled, equations_of, with_rows}
 use Rattle.fx_files.specs.Coefficients.{Coefficients, Sos}
-use Rattle.fx_files.specs.Describes.{Describes}
 use Rattle.fx_files.specs.Filter.{Filter}
-use Rattle.fx_files.specs.Plan.{HasValues, IsOfFiles, SectionsFit, entry_of, filter_of_sections, given_output}
+use Rattle.fx_files.specs.Plan.{HasValues, IsOfFiles, SectionsFit, filter_of_sections}
 use Rattle.fx_files.specs.Plan.{ports_of, settings_of}
 use Rattle.fx_files.specs.Ports.{Ports}
 use Rattle.fx_files.specs.Settings.{Settings}

@@ -1,44 +1,29 @@
 -- A file is read as a filter exactly where its table describes this filter.
-use Rattle.std.proofs.Common.{◌≡◌, ◌≢◌, ◌≤◌, ◌<◌, ◌∙◌, ℕ, zero, suc, ◌+◌, ℤ, pos, negsuc, ◌-ℤ◌, ◌≤ℤ◌, ◌<ℤ◌}
-use Rattle.std.proofs.Common.{unsigned_abs, Bool, true, false, List, [], ◌∷◌, ◌++◌, length, map, get_or, Option}
-use Rattle.std.proofs.Common.{Some, None, is_some, nat_cmp, Ordering, Less, Equal, Greater, Result, Ok, Err}
-use Rattle.std.proofs.Common.{refl, sym, ap, subst, arith, inl, inr, ◌⊎◌}
-use Rattle.std.specs.Prelude.{IsSomeAnd, IsSome, MatchOption, All, nat_lt, nat_le, not, codes}
-use Rattle.std.specs.Int.Signed.{lt_z, le_z, lt_z_no}
-use Rattle.std.specs.Option.{option_map_or}
-use Rattle.std.specs.Ordering.{match_ordering}
-use Rattle.std.specs.Cmp.{Equal-is}
-use Rattle.std.specs.Cmp.Lexicographic.{slice_cmp}
-use Rattle.std.specs.Str.{bytes_eq, is_utf8}
+use Rattle.std.proofs.Common.{◌≡◌, ◌≤◌, ◌∙◌, ℕ, zero, suc, ◌+◌, ℤ, ◌-ℤ◌}
+use Rattle.std.proofs.Common.{true, List, [], ◌∷◌, length, map}
+use Rattle.std.proofs.Common.{Some, Result, Ok, Err}
+use Rattle.std.proofs.Common.{refl, sym, ap, subst, arith, inl, inr}
+use Rattle.std.specs.Prelude.{All, nat_le, not}
+use Rattle.std.specs.Int.Signed.{lt_z, lt_z_no}
+use Rattle.std.specs.Str.{is_utf8}
 use Rattle.std.proofs.lemmas.Bool.{cases_Bool}
 use Rattle.std.proofs.lemmas.Bool.Decides.{nat_tests}
-use Rattle.std.proofs.lemmas.Int.{ints}
 use Rattle.std.proofs.lemmas.List.Elements.{All-nil, All-cons, All-head, All-tail}
-use Rattle.std.proofs.lemmas.Map.Text.{is_eq-slice_cmp}
-use Rattle.std.proofs.lemmas.Slice.Eq.{bytes_eq-Decides}
-use Rattle.toml.specs.Data.{Data, Members, no_members, member, Items, no_items, item, get_member, as_str}
-use Rattle.toml.specs.Data.{as_integer, as_array, as_table}
+use Rattle.toml.specs.Data.{Members, Items, no_items, item}
+use Rattle.toml.specs.Data.{as_table}
 use Rattle.toml.specs.Parse.{parse_document}
-use Rattle.fx_nums.specs.Fraction.{Fraction, is_one, zero_fraction}
-use Rattle.fx_math.specs.Faults.{◌>>=◌, or_fault, unless}
-use Rattle.fx_math.specs.Words.{is_accumulator}
-use Rattle.fx_files.specs.Settings.{Settings, structure_at, structure_in, is_listed, accumulator_in, settings_in}
-use Rattle.fx_files.specs.Lists.{monic, each_monic, polynomial_in, transfer_in, cascade_in, state_rows}
-use Rattle.fx_files.specs.Lists.{matrix_in, space_in, reflections_in, taps_in, ladder_in, coefficients_in}
-use Rattle.fx_files.specs.Describes.{DescribesInput, DescribesOutput, IsNear, HoldsPolynomial}
-use Rattle.fx_files.specs.Describes.{DescribesTransfer, DescribesCascade, DescribesSpace, DescribesLattice}
-use Rattle.fx_files.specs.Describes.{DescribesCoefficients, HoldsStructure, DescribesSettings, HoldsForm}
+use Rattle.fx_math.specs.Faults.{◌>>=◌, unless}
+use Rattle.fx_files.specs.Settings.{Settings, settings_in}
+use Rattle.fx_files.specs.Lists.{coefficients_in}
+use Rattle.fx_files.specs.Describes.{DescribesOutput, IsNear}
+use Rattle.fx_files.specs.Describes.{DescribesCoefficients, DescribesSettings, HoldsForm}
 use Rattle.fx_files.specs.Describes.{Describes, IsFileOf, FileLaw, DescribesOne}
-use Rattle.fx_keys.specs.Entries.{list_at, item_count, all_tables, some, at_most, exactly}
-use Rattle.fx_files.specs.Head.{form_in, head_in}
-use Rattle.fx_files.specs.Holds.{value_at, HasOnly, Each, IsListOf, IsTableOf, CountFits, HoldsTables}
-use Rattle.fx_files.specs.Holds.{HoldsInteger, HoldsWhole, HoldsNatural, HoldsNaturals, IsNumeralOf}
-use Rattle.fx_files.specs.Holds.{HoldsNumerals, HoldsRows, row_after_row, AreWide, HoldsMatrix}
-use Rattle.fx_keys.specs.Keys.{IsWithin, own_name, range_of, most_of, default_of, default_list_of}
-use Rattle.fx_files.specs.Forms.{form_text, form_word, structure_text, structure_word, default_structure, known_keys}
-use Rattle.fx_keys.specs.Numerals.{numeral_at, each_numeral, entries_in, rows_in, matrix}
-use Rattle.fx_files.specs.Ports.{Inputs, Ports, top_word, bounds_of, tables_in, input_in, each_input, inputs_in}
-use Rattle.fx_files.specs.Ports.{error_in, output_in, each_output, outputs_in, ports_in, alone, single}
+use Rattle.fx_keys.specs.Entries.{some}
+use Rattle.fx_files.specs.Head.{head_in}
+use Rattle.fx_files.specs.Holds.{HasOnly, Each, IsTableOf, CountFits}
+use Rattle.fx_files.specs.Forms.{known_keys}
+use Rattle.fx_files.specs.Ports.{Inputs, Ports}
+use Rattle.fx_files.specs.Ports.{ports_in, alone, single}
 use Rattle.fx_files.specs.Ports.{output_fits, outputs_fit}
 use Rattle.fx_files.specs.Reading.{filter_in, filter_of_bytes}
 use Rattle.fx_files.specs.Building.{assembled, equations_of, target_of, with_rows}
@@ -46,30 +31,22 @@ use Rattle.fx_files.specs.Coefficients as coefficients
 use Rattle.fx_files.specs.Coefficients.{Coefficients, form_of}
 use Rattle.fx_files.specs.Filter.{Filter}
 use Rattle.fx_files.specs.Fits.{CountsFit}
-use Rattle.fx_keys.specs.Table.{table_at, needed, is_known, only_keys}
-use Rattle.fx_keys.specs.Wholes.{integer_or, whole_or, whole_in, natural_in, naturals_in}
+use Rattle.fx_keys.specs.Table.{table_at}
 use Rattle.fx_keys.specs.declared.fault.FilterFault.{FilterFault}
-use Rattle.fx_keys.specs.declared.fault.FilterFault.TheVariants.{NotToml, Missing, WrongKind, UnknownKey}
-use Rattle.fx_keys.specs.declared.fault.FilterFault.TheVariants.{UnknownWord, Limit, Shape, NotMonic}
-use Rattle.fx_files.specs.declared.formats.InputFormat.{InputFormat}
+use Rattle.fx_keys.specs.declared.fault.FilterFault.TheVariants.{NotToml}
+use Rattle.fx_keys.specs.declared.fault.FilterFault.TheVariants.{Limit}
 use Rattle.fx_files.specs.declared.formats.OutputEntry.{OutputEntry}
 use Rattle.fx_files.specs.declared.formats.OutputFormat.{OutputFormat}
-use Rattle.fx_keys.specs.declared.key.Key.{Key}
 use Rattle.fx_keys.specs.declared.key.Key.TheVariants as key
-use Rattle.fx_keys.specs.declared.limits.Range.{Range}
-use Rattle.fx_keys.specs.declared.limits.TheConstants.{LOWS, LOW_DIFFERENCES, SECTION_COEFFICIENTS}
+use Rattle.fx_keys.specs.declared.limits.TheConstants.{LOW_DIFFERENCES}
 use Rattle.fx_files.specs.declared.forms.Form.{Form}
 use Rattle.fx_files.specs.declared.forms.Form.TheVariants as form
-use Rattle.fx_files.specs.declared.forms.Structure.{Structure}
 use Rattle.fx_files.specs.declared.forms.Structure.TheVariants as structure
 use Rattle.fx_files.proofs.Steps.{and_some, bind_ok, bind_stands, fault_ok, ok_stands, same_ok, some_and, unless_ok}
-use Rattle.fx_files.proofs.HeldNumbers.{count_of, count_read, few_test, integer_read, integer_stands}
-use Rattle.fx_files.proofs.HeldNumbers.{natural_read, natural_stands, naturals_read, naturals_stand, not_below}
-use Rattle.fx_files.proofs.HeldNumbers.{some_test, sure_no, whole_read, whole_stands}
-use Rattle.fx_files.proofs.HeldNumerals.{AreRows, IsListed, entries_listed, entries_numerals, exact_count}
-use Rattle.fx_files.proofs.HeldNumerals.{exact_test, list_of, listed, listed_entries, listed_rows, matrix_read}
-use Rattle.fx_files.proofs.HeldNumerals.{matrix_stands, numeral_read, numeral_stands, numerals_entries}
-use Rattle.fx_files.proofs.HeldNumerals.{rows_listed}
+use Rattle.fx_files.proofs.HeldNumbers.{few_test}
+use Rattle.fx_files.proofs.HeldNumbers.{not_below}
+use Rattle.fx_files.proofs.HeldNumbers.{sure_no}
+use Rattle.fx_files.proofs.HeldNumerals.{list_of, listed}
 use Rattle.fx_eqs.specs.Equations.{Equations}
 use Rattle.fx_eqs.specs.Textbook.{up_from}
 use Rattle.fx_files.proofs.HeldChoices.{head_read, head_stands, settings_read, settings_stand}
@@ -327,9 +304,11 @@ unfolding filter_in
 filter_read t f h =
     let (form, head, past_head) = bind_ok (head_in t) _ f h in
     let (ports, both, past_both) = bind_ok (ports_in t) _ f past_head in
-    let (c, lists, past_lists) = bind_ok (coefficients_in form (length ports.inputs.formats) (length ports.outputs) t) _ f past_both in
+    let (c, lists, past_lists) = bind_ok (coefficients_in form (length ports.inputs.formats)
+        (length ports.outputs) t) _ f past_both in
     let (settings, chosen, past_chosen) = bind_ok (settings_in form t) _ f past_lists in
-    let (u, one, past_one) = bind_ok (single form (length ports.inputs.formats) (length ports.outputs)) _ f past_chosen in
+    let (u, one, past_one) = bind_ok (single form (length ports.inputs.formats) (length ports.outputs)) _ f
+        past_chosen in
     let (v, near, same) = bind_ok (outputs_fit ports.inputs.low settings.accumulator ports.outputs) (λ v.
     Ok (assembled ports c settings)) f past_one in
     subst (Describes t) (same_ok (assembled ports c settings) f same)

@@ -1,36 +1,28 @@
 -- Lists, rows and matrices of numerals are read exactly where a table holds them.
-use Rattle.std.proofs.Common.{◌≡◌, ◌≢◌, ◌≤◌, ◌<◌, ◌∙◌, ℕ, zero, suc, ◌+◌, ℤ, pos, negsuc, ◌≤ℤ◌, ◌<ℤ◌}
-use Rattle.std.proofs.Common.{unsigned_abs, Bool, true, false, List, [], ◌∷◌, ◌++◌, length, Option, Some, None}
-use Rattle.std.proofs.Common.{is_some, Result, Ok, Err, refl, sym, ap, subst, arith, inl, inr, ◌⊎◌}
-use Rattle.std.specs.Prelude.{IsSomeAnd, MatchOption, nat_lt, nat_le, ◌==◌}
-use Rattle.std.specs.Int.Signed.{lt_z, lt_z_yes, lt_z_no}
-use Rattle.std.specs.Option.{option_map_or}
-use Rattle.std.proofs.lemmas.Bool.{cases_Bool, eqb-true}
+use Rattle.std.proofs.Common.{◌≡◌, ◌∙◌, ℕ, ◌+◌}
+use Rattle.std.proofs.Common.{true, List, [], ◌∷◌, ◌++◌, length, Some}
+use Rattle.std.proofs.Common.{Result, Ok, Err, refl, sym, ap, subst, arith}
+use Rattle.std.specs.Prelude.{IsSomeAnd, ◌==◌}
+use Rattle.std.proofs.lemmas.Bool.{eqb-true}
 use Rattle.std.proofs.lemmas.Bool.Decides.{nat_tests}
-use Rattle.std.proofs.lemmas.Int.{ints}
 use Rattle.std.proofs.lemmas.List.Elements.{All-nil, All-cons, All-head, All-tail}
-use Rattle.toml.specs.Data.{Data, Members, Items, no_items, item, get_member, as_integer, as_array}
+use Rattle.toml.specs.Data.{Data, Members, Items, no_items, item, as_array}
 use Rattle.fx_nums.specs.Fraction.{Fraction}
 use Rattle.fx_decimal.specs.Faults.{Means, numeral}
 use Rattle.fx_decimal.specs.declared.fault.DecimalFault.{DecimalFault}
 use Rattle.fx_decimal.proofs.ReadingLaws.{numeral_law}
-use Rattle.fx_math.specs.Faults.{◌>>=◌, or_fault, unless}
-use Rattle.fx_keys.specs.Entries.{list_at, item_count, some, at_most, exactly}
-use Rattle.fx_files.specs.Holds.{value_at, Each, IsListOf, CountFits, HoldsInteger, HoldsWhole, HoldsNatural}
-use Rattle.fx_files.specs.Holds.{IsNaturalOf, AreNaturals, HoldsNaturals, IsNumeralOf, HoldsNumerals, HoldsRows}
-use Rattle.fx_files.specs.Holds.{row_after_row, AreWide, HoldsMatrix}
-use Rattle.fx_keys.specs.Keys.{IsWithin, own_name, range_of, most_of, default_of, default_list_of}
+use Rattle.fx_math.specs.Faults.{or_fault}
+use Rattle.fx_keys.specs.Entries.{list_at, item_count, exactly}
+use Rattle.fx_files.specs.Holds.{value_at, Each, IsListOf}
+use Rattle.fx_files.specs.Holds.{IsNumeralOf}
+use Rattle.fx_files.specs.Holds.{row_after_row, AreWide}
 use Rattle.fx_keys.specs.Numerals.{numeral_text, in_place, numeral_at, all_numerals, each_numeral, entries_in}
 use Rattle.fx_keys.specs.Numerals.{all_rows, rows_in, row_of, each_exactly, each_row, matrix}
 use Rattle.fx_keys.specs.Table.{needed}
-use Rattle.fx_keys.specs.Wholes.{integer_at, integer_or, ranged, whole_or, whole_in, natural_in, all_whole}
-use Rattle.fx_keys.specs.Wholes.{natural_at, each_natural, naturals, naturals_in}
-use Rattle.fx_keys.specs.declared.fault.FilterFault.{FilterFault}
-use Rattle.fx_keys.specs.declared.fault.FilterFault.TheVariants.{Missing, WrongKind, Limit}
+use Rattle.fx_keys.specs.declared.fault.FilterFault.TheVariants.{Missing, WrongKind}
 use Rattle.fx_keys.specs.declared.key.Key.{Key}
-use Rattle.fx_keys.specs.declared.limits.Range.{Range}
-use Rattle.fx_files.proofs.Steps.{and_some, bind_ok, bind_stands, fault_ok, ok_stands, same_ok, some_and, unless_ok}
-use Rattle.fx_files.proofs.HeldNumbers.{count_of, count_read, few_test, some_test}
+use Rattle.fx_files.proofs.Steps.{and_some, bind_ok, fault_ok, ok_stands, same_ok, some_and, unless_ok}
+use Rattle.fx_files.proofs.HeldNumbers.{count_of}
 
 in_place_ok : (k : Key) (place : ℕ) (r : Result Fraction DecimalFault) (c : Fraction) →
     in_place k place r ≡ Ok c → r ≡ Ok c

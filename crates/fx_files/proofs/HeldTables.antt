@@ -1,94 +1,46 @@
 -- Tables in lists, and the keys of a table, are read exactly where a table holds them.
-use Rattle.std.proofs.Common.{◌≡◌, ◌≢◌, ◌≤◌, ◌<◌, ◌∙◌, ℕ, zero, suc, ◌+◌, ℤ, pos, negsuc, ◌-ℤ◌, ◌≤ℤ◌, ◌<ℤ◌}
-use Rattle.std.proofs.Common.{unsigned_abs, Bool, true, false, List, [], ◌∷◌, ◌++◌, length, map, get_or, Option}
-use Rattle.std.proofs.Common.{Some, None, is_some, nat_cmp, Ordering, Less, Equal, Greater, Result, Ok, Err}
-use Rattle.std.proofs.Common.{refl, sym, ap, subst, arith, inl, inr, ◌⊎◌}
-use Rattle.std.specs.Prelude.{IsSomeAnd, IsSome, MatchOption, All, nat_lt, nat_le, not, codes}
-use Rattle.std.specs.Int.Signed.{lt_z, le_z, lt_z_no}
-use Rattle.std.specs.Option.{option_map_or}
-use Rattle.std.specs.Ordering.{match_ordering}
-use Rattle.std.specs.Cmp.{Equal-is}
+use Rattle.std.proofs.Common.{◌≡◌, ◌≤◌, ◌∙◌, ℕ, ◌+◌, ℤ, pos, ◌≤ℤ◌}
+use Rattle.std.proofs.Common.{Bool, true, false, List, [], ◌∷◌, length}
+use Rattle.std.proofs.Common.{Some, nat_cmp, Result, Ok, Err}
+use Rattle.std.proofs.Common.{refl, ap, subst, inl, inr}
+use Rattle.std.specs.Prelude.{IsSomeAnd, IsSome, not}
+use Rattle.std.specs.Int.Signed.{lt_z, lt_z_no}
 use Rattle.std.specs.Cmp.Lexicographic.{slice_cmp}
-use Rattle.std.specs.Str.{bytes_eq, is_utf8}
 use Rattle.std.proofs.lemmas.Bool.{cases_Bool}
-use Rattle.std.proofs.lemmas.Bool.Decides.{nat_tests}
-use Rattle.std.proofs.lemmas.Int.{ints}
-use Rattle.std.proofs.lemmas.List.Elements.{All-nil, All-cons, All-head, All-tail}
-use Rattle.std.proofs.lemmas.Map.Text.{is_eq-slice_cmp}
-use Rattle.std.proofs.lemmas.Slice.Eq.{bytes_eq-Decides}
-use Rattle.toml.specs.Data.{Data, Members, no_members, member, Items, no_items, item, get_member, as_str}
-use Rattle.toml.specs.Data.{as_integer, as_array, as_table}
-use Rattle.toml.specs.Parse.{parse_document}
-use Rattle.fx_nums.specs.Fraction.{Fraction, is_one, zero_fraction}
-use Rattle.fx_math.specs.Faults.{◌>>=◌, or_fault, unless}
-use Rattle.fx_math.specs.Words.{is_accumulator}
-use Rattle.fx_files.specs.Settings.{Settings, structure_at, structure_in, is_listed, accumulator_in, settings_in}
-use Rattle.fx_files.specs.Lists.{monic, each_monic, polynomial_in, transfer_in, cascade_in, state_rows}
-use Rattle.fx_files.specs.Lists.{matrix_in, space_in, reflections_in, taps_in, ladder_in, coefficients_in}
-use Rattle.fx_files.specs.Describes.{DescribesInput, DescribesOutput, IsNear, HoldsPolynomial}
-use Rattle.fx_files.specs.Describes.{DescribesTransfer, DescribesCascade, DescribesSpace, DescribesLattice}
-use Rattle.fx_files.specs.Describes.{DescribesCoefficients, HoldsStructure, DescribesSettings, HoldsForm}
-use Rattle.fx_files.specs.Describes.{Describes, IsFileOf, FileLaw, DescribesOne}
-use Rattle.fx_keys.specs.Entries.{list_at, item_count, all_tables, some, at_most, exactly}
-use Rattle.fx_files.specs.Head.{form_in, head_in}
-use Rattle.fx_files.specs.Holds.{value_at, HasOnly, Each, IsListOf, IsTableOf, CountFits, HoldsTables}
-use Rattle.fx_files.specs.Holds.{HoldsInteger, HoldsWhole, HoldsNatural, HoldsNaturals, IsNumeralOf}
-use Rattle.fx_files.specs.Holds.{HoldsNumerals, HoldsRows, row_after_row, AreWide, HoldsMatrix}
-use Rattle.fx_keys.specs.Keys.{IsWithin, own_name, range_of, most_of, default_of, default_list_of}
-use Rattle.fx_files.specs.Forms.{form_text, form_word, structure_text, structure_word, default_structure, known_keys}
-use Rattle.fx_keys.specs.Numerals.{numeral_at, each_numeral, entries_in, rows_in, matrix}
+use Rattle.toml.specs.Data.{Members, no_members, member, Items, no_items, item, get_member}
+use Rattle.toml.specs.Data.{as_array, as_table}
+use Rattle.fx_nums.specs.Fraction.{Fraction}
+use Rattle.fx_math.specs.Faults.{or_fault, unless}
+use Rattle.fx_files.specs.Describes.{DescribesInput}
+use Rattle.fx_keys.proofs.Ascending.{found_later, found_where, same_bytes, same_itself}
+use Rattle.fx_keys.specs.Entries.{list_at, item_count, all_tables, some, at_most}
+use Rattle.fx_files.specs.Holds.{value_at, HasOnly, Each, IsTableOf, CountFits, HoldsTables}
+use Rattle.fx_files.specs.Holds.{HoldsWhole, HoldsNatural, IsNumeralOf}
+use Rattle.fx_keys.specs.Keys.{range_of, most_of, default_of}
+use Rattle.fx_keys.specs.Numerals.{numeral_at}
 use Rattle.fx_files.specs.Ports.{Inputs, Ports, top_word, bounds_of, tables_in, input_in, each_input, inputs_in}
-use Rattle.fx_files.specs.Ports.{error_in, output_in, each_output, outputs_in, ports_in, alone, single}
-use Rattle.fx_files.specs.Ports.{output_fits, outputs_fit}
-use Rattle.fx_files.specs.Reading.{filter_in, filter_of_bytes}
-use Rattle.fx_files.specs.Building.{assembled, equations_of, target_of, with_rows}
+use Rattle.fx_files.specs.Ports.{error_in, output_in, each_output, outputs_in, ports_in}
 use Rattle.fx_files.specs.Coefficients as coefficients
-use Rattle.fx_files.specs.Coefficients.{Coefficients, form_of}
-use Rattle.fx_files.specs.Filter.{Filter}
-use Rattle.fx_files.specs.Fits.{CountsFit}
-use Rattle.fx_keys.specs.Table.{table_at, needed, is_known, only_keys}
-use Rattle.fx_keys.specs.Wholes.{integer_or, whole_or, whole_in, natural_in, naturals_in}
+use Rattle.fx_keys.specs.Table.{needed, is_known, only_keys}
+use Rattle.fx_keys.specs.Wholes.{whole_or, whole_in, natural_in}
 use Rattle.fx_keys.specs.declared.fault.FilterFault.{FilterFault}
-use Rattle.fx_keys.specs.declared.fault.FilterFault.TheVariants.{NotToml, Missing, WrongKind, UnknownKey}
-use Rattle.fx_keys.specs.declared.fault.FilterFault.TheVariants.{UnknownWord, Limit, Shape, NotMonic}
+use Rattle.fx_keys.specs.declared.fault.FilterFault.TheVariants.{Missing, WrongKind, UnknownKey}
+use Rattle.fx_keys.specs.declared.fault.FilterFault.TheVariants.{Limit}
 use Rattle.fx_files.specs.declared.formats.InputFormat.{InputFormat}
 use Rattle.fx_files.specs.declared.formats.OutputEntry.{OutputEntry}
-use Rattle.fx_files.specs.declared.formats.OutputFormat.{OutputFormat}
 use Rattle.fx_keys.specs.declared.key.Key.{Key}
 use Rattle.fx_keys.specs.declared.key.Key.TheVariants as key
-use Rattle.fx_keys.specs.declared.limits.Range.{Range}
-use Rattle.fx_keys.specs.declared.limits.TheConstants.{LOWS, LOW_DIFFERENCES, SECTION_COEFFICIENTS}
-use Rattle.fx_files.specs.declared.forms.Form.{Form}
-use Rattle.fx_files.specs.declared.forms.Structure.{Structure}
+use Rattle.fx_keys.specs.declared.limits.TheConstants.{LOWS}
 use Rattle.fx_files.specs.declared.forms.Structure.TheVariants as structure
-use Rattle.fx_files.proofs.Steps.{and_some, bind_ok, bind_stands, fault_ok, ok_stands, same_ok, some_and, unless_ok}
-use Rattle.fx_files.proofs.HeldNumbers.{count_of, count_read, few_test, integer_read, integer_stands}
-use Rattle.fx_files.proofs.HeldNumbers.{natural_read, natural_stands, naturals_read, naturals_stand, not_below}
+use Rattle.fx_files.proofs.Steps.{and_some, bind_ok, fault_ok, ok_stands, same_ok, some_and, unless_ok}
+use Rattle.fx_files.proofs.HeldNumbers.{count_of, count_read, few_test}
+use Rattle.fx_files.proofs.HeldNumbers.{natural_read, natural_stands, not_below}
 use Rattle.fx_files.proofs.HeldNumbers.{some_test, sure_no, whole_read, whole_stands}
-use Rattle.fx_files.proofs.HeldNumerals.{AreRows, IsListed, entries_listed, entries_numerals, exact_count}
-use Rattle.fx_files.proofs.HeldNumerals.{exact_test, list_of, listed, listed_entries, listed_rows, matrix_read}
-use Rattle.fx_files.proofs.HeldNumerals.{matrix_stands, numeral_read, numeral_stands, numerals_entries}
-use Rattle.fx_files.proofs.HeldNumerals.{rows_listed}
+use Rattle.fx_files.proofs.HeldNumerals.{IsListed}
+use Rattle.fx_files.proofs.HeldNumerals.{list_of, listed}
+use Rattle.fx_files.proofs.HeldNumerals.{numeral_read, numeral_stands}
 
 -- ---- no other key
-
-pub same_itself : (k : List ℕ) → slice_cmp nat_cmp k k ≡ Equal
-same_itself k = (Equal-is (slice_cmp nat_cmp k k)).0 (is_eq-slice_cmp k k ∙ (bytes_eq-Decides k k).1 refl)
-
-same_bytes : (l j : List ℕ) → slice_cmp nat_cmp l j ≡ Equal → l ≡ j
-same_bytes l j e = (bytes_eq-Decides l j).0 (sym (is_eq-slice_cmp l j) ∙ (Equal-is (slice_cmp nat_cmp l j)).1 e)
-
-pub found_later : (o : Ordering) (d : Data) (rest : Option Data) → IsSome rest →
-    IsSome (match_ordering o rest (Some d) rest)
-found_later Less d rest h = h
-found_later Equal d rest h = refl
-found_later Greater d rest h = h
-
-found_where : (o : Ordering) (d : Data) (rest : Option Data) → IsSome (match_ordering o rest (Some d) rest) →
-    (o ≡ Equal) ⊎ IsSome rest
-found_where Less d rest h = inr h
-found_where Equal d rest h = inl refl
-found_where Greater d rest h = inr h
 
 pub only_read : (known : List Key) (t : Members) (u : Unit {0}) → only_keys known t ≡ Ok u → HasOnly known t
 unfolding only_keys
@@ -164,7 +116,8 @@ unfolding input_in
 input_read t i h =
     let (u, keys, past_keys) = bind_ok (only_keys (key.InputsWidth ∷ key.InputsBound ∷ []) t) _ i h in
     let (width, wide, past_wide) = bind_ok (natural_in key.InputsWidth t) _ i past_keys in
-    let (bound, high, same) = bind_ok (whole_or key.InputsBound (bounds_of width) (Some (top_word width)) t) _ i past_wide in
+    let (bound, high, same) = bind_ok (whole_or key.InputsBound (bounds_of width) (Some (top_word width)) t) _
+        i past_wide in
     subst (DescribesInput t) (same_ok (record { width = width; bound = bound }) i same)
     (record {
       keys = only_read _ t u keys;
@@ -250,7 +203,8 @@ entry_read : (input_low : ℤ) (place : ℕ) (t : Members) (o : OutputEntry) →
     DescribesEntry input_low t o
 unfolding output_in
 entry_read input_low place t o h =
-    let (u, keys, past_keys) = bind_ok (only_keys (key.OutputsWidth ∷ key.OutputsLow ∷ key.OutputsError ∷ []) t) _ o h in
+    let (u, keys, past_keys) = bind_ok (only_keys (key.OutputsWidth ∷ key.OutputsLow ∷ key.OutputsError ∷ [])
+        t) _ o h in
     let (width, wide, past_wide) = bind_ok (natural_in key.OutputsWidth t) _ o past_keys in
     let (low, held, past_held) = bind_ok (whole_or key.OutputsLow LOWS (Some input_low) t) _ o past_wide in
     let (error, off, same) = bind_ok (error_in place t) _ o past_held in

@@ -1,5 +1,5 @@
 -- What a table holds at a key.
-use Rattle.std.specs.Prelude.{◌≡◌, ◌≤◌, ℕ, ℤ, pos, Bool, true, List, [], ◌∷◌, length, flat_map, All, Option}
+use Rattle.std.specs.Prelude.{◌≡◌, ◌≤◌, ℕ, ℤ, pos, true, List, [], ◌∷◌, length, flat_map, All, Option}
 use Rattle.std.specs.Prelude.{Some, IsSome, IsSomeAnd, MatchOption, Ok, ⊤}
 use Rattle.toml.specs.Data.{Data, Members, Items, no_items, item, get_member, as_integer, as_array, as_table}
 use Rattle.fx_nums.specs.Fraction.{Fraction}

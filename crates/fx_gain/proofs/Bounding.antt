@@ -104,7 +104,8 @@ lengths_same : (net : Net) (n : ℕ) (lengths others bounds : ℕ → ℕ) → (
     raise net n lengths bounds ≡ raise net n others bounds
 lengths_same net n lengths others bounds agree = fun_ext (λ rows. fun_ext (λ j. at rows j (cases_lt j n)))
   where
-    at : (rows : ℕ → ℕ) (j : ℕ) → (j < n) ⊎ (n ≤ j) → raise net n lengths bounds rows j ≡ raise net n others bounds rows j
+    at : (rows : ℕ → ℕ) (j : ℕ) → (j < n) ⊎ (n ≤ j) → raise net n lengths bounds rows j ≡ raise net n others
+        bounds rows j
     at rows j (inl l) =
         ap (λ m. cond (ltb j n) (raised_bound net (λ i. m) bounds rows j) 0) (agree j l)
     at rows j (inr past) = cond-false _ _ _ (le-ltb j n past) ∙ sym (cond-false _ _ _ (le-ltb j n past))
@@ -120,7 +121,8 @@ least_same net n lengths others bounds caps greatest agree high =
 -- caps that are all the greatest bound
 pub told_below : (net : Net) (rows n : ℕ) (lengths bounds : ℕ → ℕ) (caps : List ℤ) (least : Least) (x : ℕ → ℕ) →
     caps ≡ replicate rows (pos GREATEST_BOUND) → n ≤ rows →
-    Tells (least_by_raises net n lengths bounds (bound_in caps)) least x → Tells (raises_up net n lengths bounds) least x
+    Tells (least_by_raises net n lengths bounds (bound_in caps)) least x → Tells
+        (raises_up net n lengths bounds) least x
 unfolding raises_up
 told_below net rows n lengths bounds caps least x are inside told =
     subst (λ r. Tells r least x)

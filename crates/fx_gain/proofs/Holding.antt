@@ -252,7 +252,8 @@ module _ (filter : Filter) (kept : FilterFits filter) (system : EquationsFit fil
         swap (to_den net q k k 0 r (omega arith) in_net)
 
     den_positive : 0 < block_den (original_net filter) (common filter.equations) k
-    den_positive = one-le-pow (suc k * (original_net filter).rows) (common filter.equations) (divides filter.equations).0
+    den_positive = one-le-pow (suc k * (original_net filter).rows) (common filter.equations)
+        (divides filter.equations).0
 
   -- no list on input j alone goes above the high end
   pub never_above : (m o j : ℕ) → 0 < m → o < length filter.outputs → j < length filter.inputs →

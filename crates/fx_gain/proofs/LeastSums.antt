@@ -71,7 +71,8 @@ total_only (suc n) j f l none = elim (cases_lt j n) [
       let here : f n ≡ pos 0 = none n (omega arith) (λ e. omega (arith, e, below)) in
       omega (arith, ints, before, here))
   | inr from ↦ (let same : n ≡ j = omega (arith, l, from) in
-      let before : total n f ≡ pos 0 = total_none n f (λ i h. none i (omega (arith, h)) (λ e. omega (arith, e, h, same))) in
+      let before : total n f ≡ pos 0 = total_none n f (λ i h. none i (omega (arith, h))
+          (λ e. omega (arith, e, h, same))) in
       let here : f n ≡ f j = ap f same in
       omega (arith, ints, before, here))
 ]

@@ -38,7 +38,8 @@ pub rows_can_be_filled : (size n m : ℕ) → n ≤ size → 1 ≤ m → m ≤ G
 rows_can_be_filled size n m inside some short = record {
   few = omega (arith, inside, long);
   a_length_each = length-replicate n m ∙ sym long;
-  targets_fit = λ t l. subst (TargetFits size) (sym (row_at n t (omega (arith, l, long)))) (omega (arith, l, long, inside));
+  targets_fit = λ t l. subst (TargetFits size) (sym (row_at n t (omega (arith, l, long))))
+      (omega (arith, l, long, inside));
   some = λ t l. (let e = length_at n m t (omega (arith, l, long)) in omega (arith, e, some));
   short = λ t l. (let e = length_at n m t (omega (arith, l, long)) in omega (arith, e, short));
 }

@@ -1,7 +1,8 @@
 -- Intervals and words put one after another.
 use Rattle.std.proofs.Common.{◌≡◌, ℕ, zero, suc, ◌+◌, ◌-◌, ◌*◌, ◌<◌, List, [], ◌∷◌, ◌++◌, length, get_or, map}
 use Rattle.std.proofs.Common.{arith, refl, ap, ap₂, sym, ◌∙◌, subst, inl, inr, length-append, add-one}
-use Rattle.std.proofs.lemmas.Bool.{and_from, and_left, and_right, cases_eq, cases_lt, cond-false, cond-true, eq-eqb, ne_eqb}
+use Rattle.std.proofs.lemmas.Bool.{and_from, and_left, and_right, cases_eq, cases_lt, cond-false, cond-true, eq-eqb}
+use Rattle.std.proofs.lemmas.Bool.{ne_eqb}
 use Rattle.std.proofs.lemmas.List.{append_assoc, get_or-append_right, get_or_append_left, map_push}
 use Rattle.fx_math.specs.Sums.{joined}
 use Rattle.fx_mat.specs.Intervals.{put_interval}
@@ -22,7 +23,8 @@ module _ (o j : ℕ) (v : Interval) (old new : ℕ → ℕ → Interval) (put : 
   one_more_interval want here before k l = elim (cases_eq k j) [
     | inl same ↦ at_place o k ∙ cond-true _ _ _ (and_from _ _ (eq-eqb o o refl) (eq-eqb k j same))
         ∙ here ∙ ap want (sym same)
-    | inr other ↦ at_place o k ∙ cond-false _ _ _ (and_right _ _ (ne_eqb k j other)) ∙ before k (omega (arith, l, other))
+    | inr other ↦ at_place o k ∙ cond-false _ _ _ (and_right _ _ (ne_eqb k j other)) ∙ before k
+        (omega (arith, l, other))
   ]
 
 -- ---- words
@@ -53,12 +55,14 @@ pub grid_at : {A : Type 0} (n m p k : ℕ) (f : ℕ → ℕ → A) (d : A) → p
     get_or (joined n (λ p. joined m (λ k. f p k ∷ []))) (p * m + k) d ≡ f p k
 grid_at zero m p k f d l h = absurd (omega (arith, l))
 grid_at (suc n) m p k f d l h = elim (cases_lt p n) [
-  | inl below ↦ get_or_append_left (joined n (λ p. joined m (λ k. f p k ∷ []))) (joined m (λ k. f n k ∷ [])) d (p * m + k)
+  | inl below ↦ get_or_append_left (joined n (λ p. joined m (λ k. f p k ∷ []))) (joined m (λ k. f n k ∷ [])) d
+      (p * m + k)
       (let long = length_grid n m f in let fits = within p n m k below h in omega (arith, long, fits))
       ∙ grid_at n m p k f d below h
   | inr from ↦ (let same : n ≡ p = omega (arith, l, from) in
       subst (λ q. get_or (joined (suc n) (λ p. joined m (λ k. f p k ∷ []))) (q * m + k) d ≡ f q k) same
-      (get_or-append_right (joined n (λ p. joined m (λ k. f p k ∷ []))) (joined m (λ k. f n k ∷ [])) (n * m) (n * m + k) d
+      (get_or-append_right (joined n (λ p. joined m (λ k. f p k ∷ []))) (joined m (λ k. f n k ∷ [])) (n * m)
+          (n * m + k) d
       (length_grid n m f) (omega arith)
       ∙ ap (λ i. get_or (joined m (λ k. f n k ∷ [])) i d) (let e : n * m + k - n * m ≡ k = omega arith in e)
       ∙ single_at m k (f n) d h))

@@ -1,6 +1,6 @@
 -- What is known of a length that was tried.
-use Rattle.std.proofs.Common.{◌≡◌, ℕ, zero, suc, ◌<◌, ◌≤◌, arith, refl, ap, sym, ◌∙◌, subst, inl, inr}
-use Rattle.std.proofs.Common.{Option, Some, None, replicate, List, ◌∷◌}
+use Rattle.std.proofs.Common.{◌≡◌, ℕ, zero, suc, ◌<◌, arith, refl, ap, sym, ◌∙◌, subst, inl, inr}
+use Rattle.std.proofs.Common.{Option, Some, None, replicate}
 use Rattle.std.proofs.Math.IntN.{pos}
 use Rattle.std.specs.Option.{option_map, option_or}
 use Rattle.std.proofs.lemmas.Bool.{cases_lt}
@@ -23,7 +23,6 @@ use Rattle.fx_gain.specs.Lengths.{bound_alone, bounds_failure, first_of, length_
 use Rattle.fx_gain.specs.Lengths.{original_count, raises_alone, raises_up, range_failure, row_range}
 use Rattle.fx_gain.specs.Lengths.{unrest}
 use Rattle.fx_gain.specs.Rows.{row_targets}
-use Rattle.fx_gain.specs.declared.fails.LengthFail.{LengthFail}
 use Rattle.fx_sweep.specs.Target.{start_of}
 use Rattle.fx_sweep.specs.declared.target.Target.TheVariants.{Row}
 use Rattle.fx_gain.proofs.Bounding.{raises_same}

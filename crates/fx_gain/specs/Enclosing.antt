@@ -1,5 +1,6 @@
 -- The enclosure of how far an output goes on words of one input alone, over a block of moments.
-use Rattle.std.specs.Prelude.{ℕ, ◌+◌, ◌-◌, ◌^◌, ◌<◌, ◌≤ℤ◌, unsigned_abs, cond, ℤ, pos, neg_ℤ, ◌-ℤ◌, ◌*ℤ◌, int_lt, List, [], ◌∷◌}
+use Rattle.std.specs.Prelude.{ℕ, ◌+◌, ◌-◌, ◌^◌, ◌<◌, ◌≤ℤ◌, unsigned_abs, cond, ℤ, pos, neg_ℤ, ◌-ℤ◌, ◌*ℤ◌, int_lt}
+use Rattle.std.specs.Prelude.{List, [], ◌∷◌}
 use Rattle.fx_math.specs.Sums.{joined, total}
 use Rattle.fx_nums.specs.Interval.{Interval}
 use Rattle.fx_nums.specs.declared.limits.TheConstants.{INTERVAL_BITS}

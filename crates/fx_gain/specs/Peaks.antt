@@ -1,5 +1,6 @@
 -- What the enclosures of a filter are, and when an answer is right.
-use Rattle.std.specs.Prelude.{◌≡◌, ⊤, ℕ, ◌+◌, ◌*◌, ◌<◌, ◌≤◌, ℤ, List, [], length, map, slice_index_or, Some, Result, Ok, Err}
+use Rattle.std.specs.Prelude.{◌≡◌, ⊤, ℕ, ◌+◌, ◌*◌, ◌<◌, ◌≤◌, ℤ, List, [], length, map, slice_index_or, Some, Result}
+use Rattle.std.specs.Prelude.{Ok, Err}
 use Rattle.fx_eqs.specs.declared.limits.TheConstants.{PORTS}
 use Rattle.fx_gain.specs.declared.fails.PeakFault.{PeakFault}
 use Rattle.fx_gain.specs.declared.fails.PeakFault.TheVariants.{NoLength, NoMemory}

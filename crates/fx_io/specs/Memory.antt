@@ -59,8 +59,8 @@ at_most (Some most) count = min count most
 abbrev pub HoldsBytes : Option ℕ → Type 0
 HoldsBytes piece = IfSome piece (λ most. 0 < most)
 
--- files, the reads and placings, how many reads found no file of their name, and the most bytes of a read, where there is
--- such a limit
+-- files, the reads and placings, how many reads found no file of their name, and the most bytes of a read, where there
+-- is such a limit
 pub record ShelfState : Type 0 where
   pub files : Files
   pub reads : Calls

@@ -18,7 +18,6 @@ use Rattle.toml.proofs.Blanks.{below_from}
 use Rattle.toml.proofs.Views.{Entry, is_before-sorted}
 use Rattle.fx_keys.specs.Laws.{FirstUnknown, IsFirstUnknown}
 use Rattle.fx_keys.specs.Table.{is_known, only_keys}
-use Rattle.fx_keys.specs.declared.key.Key.{Key}
 use Rattle.fx_keys.specs.declared.fault.FilterFault.{FilterFault}
 use Rattle.fx_keys.specs.declared.fault.FilterFault.TheVariants.{UnknownKey}
 
@@ -36,19 +35,19 @@ none_before l k (member j d ms) a b c =
     rw order (none_before l j ms order next more)
 
 -- a key is the same as itself
-same_itself : (k : List ℕ) → slice_cmp nat_cmp k k ≡ Equal
+pub same_itself : (k : List ℕ) → slice_cmp nat_cmp k k ≡ Equal
 same_itself k = (Equal-is (slice_cmp nat_cmp k k)).0 (is_eq-slice_cmp k k ∙ (bytes_eq-Decides k k).1 refl)
 
-same_bytes : (l j : List ℕ) → slice_cmp nat_cmp l j ≡ Equal → l ≡ j
+pub same_bytes : (l j : List ℕ) → slice_cmp nat_cmp l j ≡ Equal → l ≡ j
 same_bytes l j e = (bytes_eq-Decides l j).0 (sym (is_eq-slice_cmp l j) ∙ (Equal-is (slice_cmp nat_cmp l j)).1 e)
 
-found_later : (o : Ordering) (d : Data) (rest : Option Data) → IsSome rest →
+pub found_later : (o : Ordering) (d : Data) (rest : Option Data) → IsSome rest →
     IsSome (match_ordering o rest (Some d) rest)
 found_later Less d rest h = h
 found_later Equal d rest h = refl
 found_later Greater d rest h = h
 
-found_where : (o : Ordering) (d : Data) (rest : Option Data) → IsSome (match_ordering o rest (Some d) rest) →
+pub found_where : (o : Ordering) (d : Data) (rest : Option Data) → IsSome (match_ordering o rest (Some d) rest) →
     (o ≡ Equal) ⊎ IsSome rest
 found_where Less d rest h = inr h
 found_where Equal d rest h = inl refl

@@ -1,5 +1,5 @@
 -- The keys of a filter file: how each is spelled, which numbers stand there, and what holds where it is absent.
-use Rattle.std.specs.Prelude.{ℕ, ℤ, pos, ◌≤ℤ◌, List, [], ◌++◌, codes, Option, Some, None}
+use Rattle.std.specs.Prelude.{ℕ, ℤ, pos, ◌≤ℤ◌, List, ◌++◌, codes, Option, Some, None}
 use Rattle.fx_eqs.specs.declared.limits.TheConstants.{PORTS, COEFFICIENTS, SECTIONS, STATES, REFLECTIONS}
 use Rattle.fx_math.specs.declared.words.TheConstants.{GREATEST_WIDTH}
 use Rattle.fx_keys.specs.declared.key.Key.{Key}

@@ -10,7 +10,7 @@ use Rattle.fx_eqs.specs.Textbook.{backward, backward_rows, forward, forward_rows
 use Rattle.fx_eqs.specs.Textbook.{lattice_terms, over_sources, summand}
 use Rattle.fx_eqs.specs.declared.limits.TheConstants.{REFLECTIONS}
 use Rattle.fx_eqs.specs.declared.term.Term.{Term}
-use Rattle.fx_sif.proofs.SystemsFit.{system_fits}
+use Rattle.fx_eqs.proofs.SystemsFit.{system_fits}
 use Rattle.fx_eqs.proofs.Lattices.{lattice_has_no_fault}
 use Rattle.fx_net.specs.Net.{plain}
 use Rattle.fx_net.specs.Run.{IsDenominator}

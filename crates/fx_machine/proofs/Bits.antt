@@ -1,6 +1,7 @@
 -- Numbers of so many bits, and residues.
 use Rattle.std.proofs.Common.{◌≡◌, ℕ, zero, suc, ◌+◌, ◌*◌, ◌-◌, ◌^◌, ◌<◌, ◌≤◌, ℤ, pos, negsuc, ◌+ℤ◌, ◌-ℤ◌, ◌≤ℤ◌}
-use Rattle.std.proofs.Common.{◌<ℤ◌, ◌*ℤ◌, ◌||◌, nat_le, false, unsigned_abs, inl, inr, arith, lit<, ap, ◌∙◌, neg_ℤ, sym, subst, true}
+use Rattle.std.proofs.Common.{◌<ℤ◌, ◌*ℤ◌, ◌||◌, nat_le, false, unsigned_abs, inl, inr, arith, lit<, ap, ◌∙◌, neg_ℤ}
+use Rattle.std.proofs.Common.{sym, subst, true}
 use Rattle.std.specs.Int.{int_rem_euclid}
 use Rattle.std.proofs.Math.Nat.{pow-succ'}
 use Rattle.std.specs.Int.Bits.{bit_or}

@@ -1,5 +1,6 @@
 -- What a row gives, from its accumulator as it is read.
-use Rattle.std.proofs.Common.{◌≡◌, ℕ, ◌+◌, ◌^◌, ◌<◌, ◌≤◌, ◌-◌, ℤ, pos, negsuc, ◌+ℤ◌, ◌*ℤ◌, unsigned_abs, Bool, true, false, ◌||◌, List}
+use Rattle.std.proofs.Common.{◌≡◌, ℕ, ◌+◌, ◌^◌, ◌<◌, ◌≤◌, ◌-◌, ℤ, pos, negsuc, ◌+ℤ◌, ◌*ℤ◌, unsigned_abs, Bool, true}
+use Rattle.std.proofs.Common.{false, ◌||◌, List}
 use Rattle.std.proofs.Common.{[], ◌∷◌, sym, ap, ap₂, ◌∙◌, refl, arith, lit<}
 use Rattle.std.specs.List.{list_any}
 use Rattle.std.proofs.Math.Nat.{pow-le-pow_right}

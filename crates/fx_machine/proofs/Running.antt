@@ -2,7 +2,8 @@
 use Rattle.fx_machine.specs.declared.places.TheConstants.{FIRST_INPUT, FIRST_OLD, WORD_COUNT}
 use Rattle.fx_code.specs.declared.limits.TheConstants.{CODE_ROWS, LONGEST_SHIFT}
 use Rattle.std.proofs.Common.{◌≡◌, ◌≢◌, ℕ, zero, suc, ◌+◌, ◌*◌, ◌-◌, ◌^◌, ◌<◌, ◌≤◌, ℤ, pos, negsuc, unsigned_abs}
-use Rattle.std.proofs.Common.{nat_lt, Bool, true, false, ◌&&◌, refl, subst, ◌*ℤ◌, cond, List, [], ◌∷◌, length, map, All, slice_index_or}
+use Rattle.std.proofs.Common.{nat_lt, Bool, true, false, ◌&&◌, refl, subst, ◌*ℤ◌, cond, List, [], ◌∷◌, length, map}
+use Rattle.std.proofs.Common.{All, slice_index_or}
 use Rattle.std.proofs.Common.{slice_set, inl, inr, sym, ap, ◌∙◌, arith, lit<, lit≤, add-one, get_or-set_same}
 use Rattle.std.proofs.Common.{get_or-set_other}
 use Rattle.std.specs.Int.{bit_at}
@@ -23,7 +24,8 @@ use Rattle.fx_code.specs.Code.{Row, Code, row_at, bare, half_place, constant_of,
 use Rattle.fx_code.specs.Fits.{RowFits, SourceFits, CodeFits}
 use Rattle.fx_code.specs.Limits.{term_count}
 use Rattle.fx_machine.specs.Prepared.{place_of, word_in, half_of, limit_of, code_term_at, is_one}
-use Rattle.fx_machine.specs.Prepared.{is_copy, is_sure, kept_kind, sum_kind, greatest, scaled, Plan, plan_of, plan_for, magnitudes}
+use Rattle.fx_machine.specs.Prepared.{is_copy, is_sure, kept_kind, sum_kind, greatest, scaled, Plan, plan_of}
+use Rattle.fx_machine.specs.Prepared.{plan_for, magnitudes}
 use Rattle.fx_machine.specs.Prepared.{sum_of, is_outside, word_of, first_place, IsCopy, Suits, CanRun}
 use Rattle.fx_machine.specs.declared.prepared.Kind.{Kind}
 use Rattle.fx_machine.specs.declared.prepared.Kind.TheVariants.{Copy, Sure, Word}
@@ -49,7 +51,8 @@ source_within p words n (Now i) f h s = within_bits _ _ (f.now i (omega arith))
 source_within p words n (Old i) f h s =
     elim (cases_lt i (length p.rows)) [
       | inl here ↦ within_bits _ _ (f.old i here)
-      | inr past ↦ let e : word_in words (FIRST_OLD + i) ≡ pos 0 = f.missing i past s in rw e (within_bits _ _ (zero_fits _))
+      | inr past ↦ let e : word_in words (FIRST_OLD + i) ≡ pos 0 = f.missing i past s in rw e
+          (within_bits _ _ (zero_fits _))
     ]
 source_within p words n (In j) f h s = within_bits _ _ (f.input j s)
 

@@ -2,7 +2,7 @@ mod AtRest
 mod FirstLength
 mod FormatsOf
 mod GoingOn
-pub mod Listed
+mod Listed
 mod MadeCertificates
 mod MadePrograms
 mod OfForm

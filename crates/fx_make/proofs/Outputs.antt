@@ -18,7 +18,7 @@ use Rattle.fx_totals.specs.Filled.{target_in}
 use Rattle.fx_block.specs.Candidate.{candidate_count, candidate_pair, inner_count}
 use Rattle.fx_block.specs.Formats.{output_at, shift_of}
 use Rattle.fx_make.specs.Targets.{target_at, target_count, targets_of}
-use Rattle.fx_make.proofs.Listed.{listed_at, listed_count}
+use Rattle.fx_block.proofs.Places.{listed_at, listed_length}
 
 -- ---- what a target is
 
@@ -37,7 +37,7 @@ module _ (f : Filter) (rows : List BareRow) where
   target_listed t l = listed_at (target_count f rows) (target_at f rows) t (Row 0) l
 
   pub targets_long : length (targets_of f rows) ≡ target_count f rows
-  targets_long = listed_count (target_count f rows) (target_at f rows)
+  targets_long = listed_length (target_count f rows) (target_at f rows)
 
 -- ---- its rows are rows of the net
 

@@ -1,6 +1,6 @@
 -- One more entry: of a row to which multiples are added, of a row of a product, and one more row.
-use Rattle.std.proofs.Common.{◌≡◌, ◌⊎◌, inl, inr, ℕ, ◌+◌, ◌*◌, ◌^◌, ◌<◌, ◌≤◌, ◌==◌, ◌&&◌, Bool, true, false}
-use Rattle.std.proofs.Common.{cond, nat_lt, refl, sym, subst, ap, ◌∙◌, arith, ltb, ltb-false, ℤ, unsigned_abs}
+use Rattle.std.proofs.Common.{◌≡◌, ◌⊎◌, inl, inr, ℕ, ◌+◌, ◌<◌, ◌≤◌}
+use Rattle.std.proofs.Common.{refl, sym, ap, ◌∙◌, arith, ℤ}
 use mathlib.Core.Path.{fun_ext}
 use Rattle.std.proofs.lemmas.Bool.{lt-ltb, le-ltb, and_left, and_right, cond-true, cond-false, and_from, eq-eqb}
 use Rattle.std.proofs.lemmas.Bool.{ne_eqb, cases_lt, cases_eq}

@@ -1,17 +1,17 @@
 -- Sums of the scaled entries of a row, and what lies within them.
-use Rattle.std.proofs.Common.{◌≡◌, ℕ, zero, suc, ◌+◌, ◌*◌, ◌/◌, ◌^◌, ◌<◌, ◌≤◌, refl, sym, ◌∙◌, ap, arith}
+use Rattle.std.proofs.Common.{◌≡◌, ℕ, ◌+◌, ◌*◌, ◌/◌, ◌^◌, ◌≤◌, refl, arith}
 use Rattle.std.proofs.Common.{add-one, ℤ, pos, ◌+ℤ◌, ◌*ℤ◌, ◌≤ℤ◌, unsigned_abs}
 use Rattle.std.proofs.lemmas.Int.{ints}
 use borrow.Author.Differences.{abs_is}
 use Rattle.fx_math.specs.Sums.{total}
-use Rattle.fx_math.proofs.Ring.{mul_assoc, mul_comm, add-mul}
+use Rattle.fx_math.proofs.Ring.{mul_assoc, add-mul}
 use Rattle.fx_math.proofs.Division.{mul_le_nat}
 use Rattle.fx_math.proofs.Lines.{swapped, split_factor}
 use Rattle.fx_math.specs.Ratio.{product_of, Ratio}
 use Rattle.fx_nums.specs.Arithmetic.{IsWithin, scaled}
 use Rattle.fx_nums.specs.Enclosing.{Encloses}
 use Rattle.fx_nums.specs.Fraction.{den_value, Fraction, IsWholeOver, over, value_of}
-use Rattle.fx_nums.specs.Interval.{Interval, IntervalFits, plus, point}
+use Rattle.fx_nums.specs.Interval.{Interval, IntervalFits, plus}
 use Rattle.fx_mat.specs.Intervals.{EnclosesSums, IsRowByColumn, row_by_column, zero_interval}
 
 -- v is the sum of the first n

@@ -1,7 +1,7 @@
 -- Nets that run the same equations agree in each of the expanded rows.
-use Rattle.std.proofs.Common.{◌≡◌, ◌⊎◌, ℕ, zero, suc, ◌+◌, ◌-◌, ◌*◌, ◌^◌, ◌<◌, ◌≤◌, length, arith, sym, refl}
-use Rattle.std.proofs.Common.{inl, inr, subst, ap, ◌∙◌}
-use Rattle.std.proofs.Math.IntN.{ℤ, pos}
+use Rattle.std.proofs.Common.{◌≡◌, ◌⊎◌, ℕ, zero, suc, ◌+◌, ◌-◌, ◌*◌, ◌<◌, ◌≤◌, length, arith, sym}
+use Rattle.std.proofs.Common.{inl, inr}
+use Rattle.std.proofs.Math.IntN.{ℤ}
 use Rattle.std.proofs.Math.Nat.{one-le-pow}
 use Rattle.std.proofs.lemmas.Bool.{cases_lt}
 use Rattle.fx_math.specs.Ratio.{Ratio, SameValue, whole}
@@ -9,7 +9,6 @@ use Rattle.fx_math.specs.Sums.{sum_below}
 use Rattle.fx_math.specs.Unroll.{lagged}
 use Rattle.fx_math.proofs.Values.{same_chains}
 use Rattle.fx_eqs.proofs.Expanding.{length-expanded}
-use Rattle.fx_eqs.specs.Denominator.{DividesEach}
 use Rattle.fx_eqs.specs.Equations.{Equations}
 use Rattle.fx_eqs.specs.ExactRun.{row_value}
 use Rattle.fx_eqs.specs.Expanded.{expanded, input_hold_place, row_hold_place, row_place}

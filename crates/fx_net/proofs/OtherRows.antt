@@ -1,6 +1,6 @@
 -- Rows that are put leave the others, and denominators.
-use Rattle.std.proofs.Common.{◌≡◌, ◌⊎◌, ℕ, zero, suc, ◌+◌, ◌-◌, ◌*◌, ◌/◌, ◌<◌, ◌≤◌, false, cond, List, [], ◌∷◌}
-use Rattle.std.proofs.Common.{◌++◌, length, All, refl, arith, sym, ◌∙◌, inl, inr, eqb, filter, map, Bool}
+use Rattle.std.proofs.Common.{◌≡◌, ℕ, zero, suc, ◌+◌, ◌-◌, ◌<◌, ◌≤◌, false, cond, List, [], ◌∷◌}
+use Rattle.std.proofs.Common.{◌++◌, length, All, arith, sym, ◌∙◌, inl, inr, eqb, filter, Bool}
 use Rattle.std.proofs.lemmas.Bool.{cases_lt, cond-false, cond_both, and_left, and_right, lt-leb, le-ltb}
 use Rattle.std.proofs.lemmas.List.{get_or_past}
 use Rattle.std.proofs.lemmas.List.Elements.{All-nil, All-cons, All-head, All-tail, All-append, All-filter, All-map}

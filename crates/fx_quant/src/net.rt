@@ -1,44 +1,21 @@
 //! The rows of a design in a net.
 
 ghost use Rattle.std.specs.Prelude.{◌≡◌, ◌+◌, ◌<◌, ◌≤◌, length, map};
-ghost use Rattle.fx_code.specs.Fits.{TermFits};
 ghost use Rattle.fx_code.specs.NetRows.{
   bare_at,
   class_of,
   classes_of,
-  net_read,
   net_row,
-  net_term,
   put_bare_rows,
   put_classes,
 };
-ghost use Rattle.fx_net.specs.Rows.{AreEmpty, ReadFits, put_each, put_term, put_terms};
+ghost use Rattle.fx_net.specs.Rows.{AreEmpty, put_each, put_terms};
 ghost use Rattle.fx_net.specs.Tables.{net_of};
 ghost use Rattle.fx_quant.specs.Design.{DesignFits};
 
 use crate::design::Design;
-use fx_code::{CodeTerm, LONGEST_SHIFT, Read};
+use fx_code::put_term;
 use fx_net::Net;
-use fx_nums::{Den, Frac};
-
-// Puts a term of row `row` of those from `at` on.
-fn put_term<const N: usize>(net: &mut Net<N>, at: usize, row: usize, shift: u8, term: &CodeTerm)
-    requires row { at + row < N }
-    requires shift { shift ≤ LONGEST_SHIFT }
-    requires fits { TermFits shift term.now }
-    requires read { ReadFits N at row (net_read term.now.from) }
-    ensures { net_of net.new
-        ≡ put_term at row (net_term shift term.now).coef (net_term shift term.now).from (net_of net.old) }
-{
-    let Some(coefficient) = Frac::new(term.weight() as i64, Den::Two(shift)) else {
-        unreachable!();
-    };
-    match term.from {
-        Read::Now(j) => net.set_now(at + row, at + usize::from(j), coefficient),
-        Read::Old(j) => net.set_old(at + row, at + usize::from(j), coefficient),
-        Read::In(j) => net.set_in(at + row, usize::from(j), coefficient),
-    }
-}
 
 impl Design {
     // How many half steps the rounding of row i may be off.

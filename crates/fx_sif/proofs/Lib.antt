@@ -19,6 +19,5 @@ pub mod Placing
 pub mod Recursion
 pub mod RowSums
 pub mod Summing
-pub mod SystemsFit
 pub mod Uniqueness
 mod Widest

@@ -9,11 +9,9 @@ use Rattle.std.proofs.lemmas.Bool.Decides.{nat_tests}
 use Rattle.std.proofs.lemmas.List.Elements.{All-head, All-tail}
 use Rattle.std.proofs.lemmas.Map.Keys.{IsDistinct-tail}
 use Rattle.std.proofs.lemmas.List.Folds.{list_any-append}
-use Rattle.std.proofs.Math.Nat.{one-le-pow}
 use Rattle.fx_math.proofs.Faults.{none_if, none_or}
+use Rattle.fx_nums.proofs.Denominators.{den_positive}
 use Rattle.fx_nums.specs.Fraction.{Fraction, den_value, is_one, is_zero}
-use Rattle.fx_nums.specs.declared.fraction.Den.{Den}
-use Rattle.fx_nums.specs.declared.fraction.Den.TheVariants.{Two, Ten}
 use Rattle.fx_eqs.proofs.Distinct.{distinct_head}
 use Rattle.fx_sif.specs.Blocks.{height, width, same_place}
 use Rattle.fx_sif.specs.Faults.{is_out, breaks_unit_lower, entry_fault, entries_fault}
@@ -28,10 +26,6 @@ use Rattle.fx_sif.specs.declared.parts.Entry.{Entry}
 use Rattle.fx_sif.specs.declared.parts.Sizes.{Sizes}
 
 -- ---- J
-
-den_positive : (d : Den) → 1 ≤ den_value d
-den_positive (Two e) = one-le-pow e 2 (omega arith)
-den_positive (Ten e) = one-le-pow e 10 (omega arith)
 
 one_passes : (z : ℤ) (n : ℕ) → 1 ≤ n → z ≡ pos n → int_lt (pos 0) z && eqb (unsigned_abs z) n ≡ true
 one_passes z zero low e = elim low [ ]

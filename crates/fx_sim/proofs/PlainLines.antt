@@ -1,6 +1,7 @@
 -- The records of plain lines, as `csv` reads them.
 use Rattle.std.proofs.Common.{◌≡◌, ◌+◌, ◌-◌, ◌≤◌, ◌<◌, ◌==◌, ◌∙◌, ℕ, zero, suc, ℤ, pos, false, List, []}
-use Rattle.std.proofs.Common.{◌∷◌, ◌++◌, length, get_or, Some, refl, sym, ap, arith, append_assoc, inl, inr, subst, length-append}
+use Rattle.std.proofs.Common.{◌∷◌, ◌++◌, length, get_or, Some, refl, sym, ap, arith, append_assoc, inl, inr, subst}
+use Rattle.std.proofs.Common.{length-append}
 use Rattle.std.proofs.Common.{◌⊎◌, append-nil, eq-zero-or-pos, length-set}
 use Rattle.std.proofs.Math.ListN.{set}
 use Rattle.std.specs.List.{AllByRecursion}
@@ -274,7 +275,8 @@ records_of_line : (text : List ℕ) → strip_bom (line_at text) ≡ line_at tex
     → records default_config (strip_bom text) ≡ records default_config (line_at text)
 records_of_line [] same = ap (records default_config) same
 records_of_line (c ∷ cs) same = elim (cases_Bool (c == line_feed)) [
-  | inl feed ↦ rw (eqb-true c line_feed feed) (ap (records default_config) (unmarked_line_feed cs) ∙ behind_line_feed cs)
+  | inl feed ↦ rw (eqb-true c line_feed feed) (ap (records default_config) (unmarked_line_feed cs) ∙
+      behind_line_feed cs)
   | inr other ↦
       let here : line_at (c ∷ cs) ≡ c ∷ cs = rw other refl in
       rw here (ap (records default_config) (rw here at same))

@@ -2,8 +2,9 @@
 
 ghost use Rattle.std.specs.Prelude.{◌≡◌, ◌<◌, ◌^◌, IfSome, FitsSigned};
 ghost use Rattle.std.specs.Int.{w64};
-ghost use Rattle.fx_nums.specs.Signs.{is_blank};
 ghost use Rattle.fx_sim.specs.Fields.{field_value, magnitude, skipped};
+
+use fx_nums::is_blank;
 
 /// The most digits of a field.
 pub const FIELD_DIGITS: usize = 18;
@@ -12,12 +13,6 @@ pub const FIELD_DIGITS: usize = 18;
 pub fn field_digits_is_this()
     ensures { FIELD_DIGITS ≡ 18 }
 {}
-
-fn is_blank(byte: u8) -> bool
-    ensures { result ≡ is_blank byte }
-{
-    byte == b' ' || byte == b'\t' || byte == b'\r' || byte == b'\n'
-}
 
 // What follows the blanks at the front.
 #[tactic(auto, unfolding(crate::specs::Fields::skipped))]

@@ -33,7 +33,7 @@ use Rattle.fx_sif.proofs.LagSums.{TermsSuit, column_sum, column_sum-same, kept_w
 use Rattle.fx_sif.proofs.LagSums.{lag_sum-back, lag_sum-front, lag_sum-kept, lag_sum-other_sources}
 use Rattle.fx_sif.proofs.LagSums.{lag_sum-over_sources, sources_suit}
 use Rattle.fx_sif.proofs.OneScale.{RowsMeet, cancelled, no_weight, weight}
-use Rattle.fx_sif.proofs.SystemsFit.{system_fits}
+use Rattle.fx_eqs.proofs.SystemsFit.{system_fits}
 use Rattle.fx_sif.proofs.RowSums.{adds, adds_both, adds_its_row, adds_no_row, all_across}
 use Rattle.fx_space.specs.Matrices.{SpaceFits, matrix_a, matrix_b, matrix_c, matrix_d}
 use Rattle.fx_space.specs.Space.{block_of, space_entries, space_equations, space_form}

@@ -1,18 +1,16 @@
 -- The first place of a moment whose number reaches the limit: places with 0 in them change nothing.
-use Rattle.std.proofs.Common.{◌≡◌, ℕ, zero, suc, ◌+◌, ◌-◌, ◌^◌, ◌≤◌, arith, refl, ap, ap₂, sym, ◌∙◌, inl, inr}
-use Rattle.std.proofs.Common.{true, false, cond, List, [], ◌∷◌, ◌++◌, Option, Some, None}
-use Rattle.std.proofs.Math.IntN.{pos}
-use Rattle.std.specs.Prelude.{nat_le}
+use Rattle.std.proofs.Common.{◌≡◌, ℕ, zero, suc, ◌+◌, ◌-◌, ◌≤◌, arith, refl, ap, ap₂, sym, ◌∙◌, inl, inr}
+use Rattle.std.proofs.Common.{List, [], ◌∷◌, ◌++◌, Option, Some, None}
 use Rattle.std.specs.Option.{option_or}
 use mathlib.Core.Path.{fun_ext}
 use Rattle.std.proofs.lemmas.Bool.{cases_lt}
 use Rattle.fx_math.specs.Sums.{joined}
 use Rattle.fx_eqs.specs.declared.limits.TheConstants.{PORTS}
-use Rattle.fx_nums.specs.declared.limits.TheConstants.{OPERAND_BITS}
 use Rattle.fx_sweep.specs.Range.{places, first_range}
 use Rattle.fx_sweep.specs.declared.target.Place.{Place}
 use Rattle.fx_sweep.specs.declared.target.Place.TheVariants.{Weight, Gain, Input, Rest}
 use Rattle.fx_sweep.specs.declared.target.RangeAt.{RangeAt}
+use Rattle.fx_sweep.proofs.Ranges.{range_append}
 
 -- ---- the first of some places
 
@@ -23,17 +21,6 @@ or_none (Some x) = refl
 or_chain : (x y z : Option RangeAt) → option_or (option_or x y) z ≡ option_or x (option_or y z)
 or_chain None y z = refl
 or_chain (Some x) y z = refl
-
-first_behind : (value : Place → ℕ) (xs ys : List Place) →
-    first_range value (xs ++ ys) ≡ option_or (first_range value xs) (first_range value ys)
-first_behind value [] ys = refl
-first_behind value (p ∷ xs) ys = elim (nat_le (2 ^ OPERAND_BITS) (value p)) as (λ t.
-    cond t (Some (record { place = p; value = pos (value p) })) (first_range value (xs ++ ys))
-    ≡ option_or (cond t (Some (record { place = p; value = pos (value p) })) (first_range value xs))
-    (first_range value ys)) [
-      | true ↦ refl
-      | false ↦ first_behind value xs ys
-    ]
 
 -- a place with 0 in it is not the first
 first_skips : (value : Place → ℕ) (p : Place) (ps : List Place) → value p ≡ 0 →
@@ -47,10 +34,10 @@ joined_front : (value : Place → ℕ) (n : ℕ) (f : ℕ → List Place) →
     ≡ option_or (first_range value (f 0)) (first_range value (joined n (λ i. f (suc i))))
 joined_front value zero f = sym (or_none (first_range value (f 0)))
 joined_front value (suc n) f =
-    first_behind value (joined (suc n) f) (f (suc n))
+    range_append value (joined (suc n) f) (f (suc n))
     ∙ ap (λ x. option_or x (first_range value (f (suc n)))) (joined_front value n f)
     ∙ or_chain (first_range value (f 0)) (first_range value (joined n (λ i. f (suc i)))) (first_range value (f (suc n)))
-    ∙ ap (option_or (first_range value (f 0))) (sym (first_behind value (joined n (λ i. f (suc i))) (f (suc n))))
+    ∙ ap (option_or (first_range value (f 0))) (sym (range_append value (joined n (λ i. f (suc i))) (f (suc n))))
 
 -- the places of the rows, from the last to the first
 abbrev row_places : ℕ → List Place
@@ -89,7 +76,7 @@ module _ (value : Place → ℕ) (n : ℕ) (weights : (i : ℕ) → n ≤ i → 
   rests_shorter zero l = ap (λ x. first_range value (rest_places x)) (let e : 0 ≡ n = omega arith in e)
   rests_shorter (suc m) l = elim (cases_lt m n) [
     | inl h ↦ ap (λ x. first_range value (rest_places x)) (let e : suc m ≡ n = omega arith in e)
-    | inr h ↦ first_behind value (rest_places m) (Rest m ∷ [])
+    | inr h ↦ range_append value (rest_places m) (Rest m ∷ [])
         ∙ ap (option_or (first_range value (rest_places m))) (first_skips value (Rest m) [] (rests m h))
         ∙ or_none (first_range value (rest_places m)) ∙ rests_shorter m h
   ]
@@ -98,8 +85,8 @@ module _ (value : Place → ℕ) (n : ℕ) (weights : (i : ℕ) → n ≤ i → 
       ≡ option_or (option_or (first_range value (row_places m)) (first_range value input_places))
       (first_range value (rest_places m))
   split_places m =
-      first_behind value (row_places m ++ input_places) (rest_places m)
-      ∙ ap (λ x. option_or x (first_range value (rest_places m))) (first_behind value (row_places m) input_places)
+      range_append value (row_places m ++ input_places) (rest_places m)
+      ∙ ap (λ x. option_or x (first_range value (rest_places m))) (range_append value (row_places m) input_places)
 
   pub places_shorter : (m : ℕ) → n ≤ m → first_range value (places n) ≡ first_range value (places m)
   places_shorter m l =

@@ -1,7 +1,6 @@
 -- Products of a weight with a coefficient: they enclose the exact product, they are in order, and one with 0 is 0.
-use Rattle.std.proofs.Common.{◌≡◌, ℕ, ◌*◌, ◌/◌, ◌<◌, arith, refl, ap, sym, ◌∙◌, true}
+use Rattle.std.proofs.Common.{◌≡◌, ℕ, ◌*◌, ◌/◌, arith, refl, ap, sym, ◌∙◌, true}
 use Rattle.std.proofs.Math.IntN.{ℤ, pos, ◌*ℤ◌, neg_ℤ}
-use Rattle.std.proofs.Math.Nat.{one-le-pow}
 use Rattle.std.specs.Int.Signed.{◌≤ℤ◌}
 use Rattle.std.proofs.lemmas.Int.{ints}
 use Rattle.fx_math.specs.Division.{floor_div, ceil_div}
@@ -11,13 +10,8 @@ use Rattle.fx_nums.specs.Arithmetic.{multiple}
 use Rattle.fx_nums.specs.Fraction.{Fraction, den_value, over, IsWholeOver, zero_fraction}
 use Rattle.fx_nums.specs.Interval.{Interval, point}
 use Rattle.fx_nums.specs.Products.{is_exact, product_down, product_up}
-use Rattle.fx_nums.specs.declared.fraction.Den.{Den}
-use Rattle.fx_nums.specs.declared.fraction.Den.TheVariants.{Two, Ten}
+use Rattle.fx_nums.proofs.Denominators.{den_positive}
 use Rattle.fx_nums.proofs.ProductLaws.{down_below, up_above, down_exact, up_exact}
-
-pub den_positive : (d : Den) → 0 < den_value d
-den_positive (Two e) = one-le-pow e 2 (omega arith)
-den_positive (Ten d) = one-le-pow d 10 (omega arith)
 
 pub multiple_ordered : (w : ℤ) (c : Fraction) → (multiple w c).lo ≤ℤ (multiple w c).hi
 multiple_ordered w c =

@@ -5,6 +5,7 @@ use Rattle.std.proofs.lemmas.Bool.{cases_eq}
 use Rattle.std.specs.Prelude.{pos}
 use Rattle.std.specs.Option.{option_or}
 use Rattle.fx_math.specs.Sums.{joined}
+use Rattle.fx_nums.specs.declared.limits.TheConstants.{OPERAND_BITS}
 use Rattle.fx_sweep.specs.Range.{first_range}
 use Rattle.fx_sweep.specs.declared.target.Place.{Place}
 use Rattle.fx_sweep.specs.declared.target.RangeAt.{RangeAt}
@@ -16,7 +17,7 @@ first_none (Some x) b h = h
 pub range_append : (value : Place → ℕ) (ps qs : List Place) →
     first_range value (ps ++ qs) ≡ option_or (first_range value ps) (first_range value qs)
 range_append value [] qs = refl
-range_append value (p ∷ ps) qs = by_test (nat_le (2 ^ 88) (value p)) (range_append value ps qs)
+range_append value (p ∷ ps) qs = by_test (nat_le (2 ^ OPERAND_BITS) (value p)) (range_append value ps qs)
   where
     by_test : (b : Bool) → first_range value (ps ++ qs) ≡ option_or (first_range value ps) (first_range value qs) →
         cond b (Some (record { place = p; value = pos (value p) })) (first_range value (ps ++ qs))

@@ -33,7 +33,8 @@ module _ (net : Net) (n : ℕ) (target : Target) (m count made more : ℕ) (s t 
       (moved.row_gains_rise ∙ fun_ext (λ i. omega arith)) (moved.input_gains_rise ∙ fun_ext (λ j. omega arith))
 
   same_rows : settled_rows net n s ≡ settled net (start_of target) m
-  same_rows = ap (settle net n) swept.is_carried ∙ ap (λ (k : ℕ). settle net k (carried net (start_of target) m)) (sym e)
+  same_rows = ap (settle net n) swept.is_carried ∙ ap (λ (k : ℕ). settle net k
+      (carried net (start_of target) m)) (sym e)
 
   by_several : (k : ℕ) → 1 ≤ k → k ≢ 1 → IsMoved net n s t k → GainsFit t.row_gains.items →
       GainsFit t.input_gains.items → Swept (state_of (count + k) more None t) net target (m + k)

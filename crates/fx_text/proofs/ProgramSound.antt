@@ -21,7 +21,7 @@ use Rattle.fx_text.specs.Grammar.{row_name, old_name, accumulator_name, constant
 use Rattle.fx_text.specs.Grammar.{SpellsRows, inputs_tokens, outputs_tokens, keeps_tokens, last_tokens, Spells}
 use Rattle.fx_text.specs.Grammar.{first_line}
 use Rattle.fx_text.specs.TokenReading.{repeated, first_line_at}
-use Rattle.fx_text.specs.Reading.{input_more, terms_within, terms_at, place_of, unless_fault, checked_constant}
+use Rattle.fx_text.specs.Reading.{input_more, terms_within, place_of, unless_fault, checked_constant}
 use Rattle.fx_text.specs.Reading.{row_more, output_more, keep_more, body_at, code_in}
 use Rattle.fx_text.proofs.TokenLaws.{Sound, sound_bind, sound_ok, sound_err, sound_if, Back, back_then, expect_sound}
 use Rattle.fx_text.proofs.NumberLaws.{due_sound}

@@ -1,5 +1,5 @@
 -- A step that is taken so many times, as a loop takes it.
-use Rattle.std.proofs.Common.{◌≡◌, ℕ, suc, ◌-◌, ◌+◌, ◌≤◌, ◌<◌, Result, Ok, Err, refl, sym, ◌∙◌, arith}
+use Rattle.std.proofs.Common.{◌≡◌, ℕ, suc, ◌-◌, ◌+◌, ◌≤◌, ◌<◌, Result, Ok, refl, sym, ◌∙◌, arith}
 use Rattle.fx_text.specs.declared.fault.CodeFault.{CodeFault}
 use Rattle.fx_math.specs.Faults.{◌>>=◌}
 use Rattle.fx_math.specs.Answers.{Fails}

@@ -2,7 +2,6 @@
 use Rattle.std.proofs.Common.{◌≡◌, ◌≤◌, ◌<◌, ◌+◌, ◌^◌, ℕ, zero, suc, ℤ, pos, negsuc, true, false, List, [], ◌∷◌}
 use Rattle.std.proofs.Common.{◌++◌, codes, decimal, length, All, refl, sym, ap, subst, append_assoc, arith}
 use Rattle.std.proofs.Common.{rules, inl, inr}
-use Rattle.std.proofs.lemmas.Int.{ints}
 use Rattle.std.proofs.lemmas.List.Elements.{All-head, All-tail, All-weaker, All-from_get_or}
 use Rattle.std.specs.Fmt.{signed_decimal}
 use Rattle.fx_code.specs.Code.{Row, Code, IsWhole, half_place, row_at}

@@ -1,5 +1,5 @@
 -- A program as it is read from left to right, with the first fault in the order of the text.
-use Rattle.std.specs.Prelude.{ℕ, zero, suc, ◌+◌, ◌-◌, ◌^◌, ◌==◌, ◌||◌, min, nat_le, ℤ, pos, Bool, true, false}
+use Rattle.std.specs.Prelude.{ℕ, zero, suc, ◌+◌, ◌-◌, ◌^◌, ◌==◌, min, nat_le, ℤ, pos, Bool, true, false}
 use Rattle.std.specs.Prelude.{List, [], ◌∷◌, ◌++◌, length, codes, Option, Some, None, option_map, Result, Ok}
 use Rattle.std.specs.Prelude.{Err, if◌then◌else◌}
 use Rattle.std.specs.Option.{option_or}
@@ -15,7 +15,7 @@ use Rattle.fx_code.specs.declared.term.CodeTerm.{CodeTerm}
 use Rattle.fx_code.specs.declared.term.Read.{Read}
 use Rattle.fx_code.specs.declared.term.Read.TheVariants.{Now, Old, In}
 use Rattle.fx_code.specs.declared.fault.LimitOf.TheVariants.{Accumulator, Inputs, Rows, Outputs, InputWidth}
-use Rattle.fx_code.specs.declared.fault.LimitOf.TheVariants.{Width, Shift, Left, Coefficient, Terms}
+use Rattle.fx_code.specs.declared.fault.LimitOf.TheVariants.{Width, Shift, Left, Coefficient}
 use Rattle.fx_code.specs.declared.fault.ProgramFault.{ProgramFault}
 use Rattle.fx_code.specs.declared.fault.ProgramFault.TheVariants as program
 use Rattle.fx_text.specs.declared.fault.CodeFault.{CodeFault}

@@ -4,7 +4,6 @@ ghost use Rattle.std.specs.Prelude.{◌≡◌, ◌≤◌, ◌<◌, ◌^◌, [], 
 ghost use Rattle.fx_code.specs.Code.{half_place};
 ghost use Rattle.fx_math.specs.Answers.{Gives};
 ghost use Rattle.fx_text.specs.TokenReading.{is_memory};
-ghost use Rattle.fx_nums.specs.Signs.{signed};
 ghost use Rattle.fx_text.specs.Reading.{
   sign_at,
   coefficient_at,
@@ -27,6 +26,7 @@ use crate::token::{
 };
 use fx_code::{COEFFICIENT_BITS, CodeTerm, LONGEST_SHIFT, LimitOf, Read, reads_source};
 use fx_math::{GREATEST_WIDTH, LEAST_WIDTH};
+use fx_nums::signed;
 use std::alloc::Global;
 
 /// Where a row stands: its number, the count of rows and the count of inputs.
@@ -35,18 +35,6 @@ pub struct Place {
     pub row: u8,
     pub rows: u8,
     pub inputs: u8,
-}
-
-// A magnitude with its sign.
-fn signed(negative: bool, magnitude: u64) -> i64
-    requires { magnitude < 2 ^ 63 }
-    ensures { result ≡ signed negative magnitude }
-{
-    if negative {
-        -(magnitude as i64)
-    } else {
-        magnitude as i64
-    }
 }
 
 // Whether a `-` is next, and the place where its number is.

@@ -26,16 +26,10 @@ ghost use Rattle.fx_text.specs.TokenReading.{
 
 use crate::fault::CodeFault;
 use fx_code::{CODE_ROWS, LimitOf};
-use fx_nums::whole_at;
+use fx_nums::{is_blank, whole_at};
 
 /// The first line of each program's text.
 pub const FIRST_LINE: &[u8] = b"#include \"fixif.h\"\n";
-
-fn is_blank(byte: u8) -> bool
-    ensures { result ≡ is_blank byte }
-{
-    byte == b' ' || byte == b'\t' || byte == b'\r' || byte == b'\n'
-}
 
 fn is_letter(byte: u8) -> bool
     ensures { result ≡ is_letter byte }

@@ -1,5 +1,5 @@
 -- What follows a plan behind the first file, follows the plan from that file on.
-use Rattle.std.proofs.Common.{◌≡◌, ◌∙◌, inl, inr, ℕ, ◌+◌, ◌≤◌, nat_le, Bool, true, false, cond, List, ◌∷◌, length}
+use Rattle.std.proofs.Common.{◌≡◌, ◌∙◌, inr, ℕ, ◌+◌, ◌≤◌, nat_le, Bool, true, false, cond, List, ◌∷◌, length}
 use Rattle.std.proofs.Common.{Option, Some, None, IsSomeAnd, IfSome, Result, Ok, Err, IfOk, refl, sym, ap, subst, arith}
 use Rattle.std.specs.FinMap.{get}
 use Rattle.fx_io.specs.Causes.{HasCause}
@@ -9,7 +9,8 @@ use Rattle.fx_io.specs.declared.shelf.IoFault.{IoFault}
 use Rattle.fx_tool.specs.Answer.{Answer, absent}
 use Rattle.fx_words.specs.Operand.{limit_of}
 use Rattle.fx_tool.specs.Operand.{too_long}
-use Rattle.fx_tool.specs.Plan.{Plan, Ends, Reads, by_content, answer_by, calls_by, most_calls, plan_calls, OfAnswer, OnContents}
+use Rattle.fx_tool.specs.Plan.{Plan, Ends, Reads, by_content, answer_by, calls_by, most_calls, plan_calls, OfAnswer}
+use Rattle.fx_tool.specs.Plan.{OnContents}
 use Rattle.fx_tool.specs.Plan.{Follows}
 use Rattle.fx_tool.specs.Reading.{Has, HoldsContent, read_calls}
 use Rattle.fx_words.specs.declared.operand.Operand.{Operand}
@@ -112,7 +113,8 @@ pub after_read : {X : Type 0} (o : Operand) (os : List Operand) (name : List ℕ
     Follows os names (next bytes) middle now result →
     Follows (o ∷ os) (name ∷ names) (Reads next) before now result
 after_read o os name names next before middle now found bytes read value result ok is within there first later =
-    let short : length bytes ≤ limit_of o = subst (λ found. IfSome found (λ bytes. length bytes ≤ limit_of o)) is within in
+    let short : length bytes ≤ limit_of o = subst (λ found. IfSome found (λ bytes. length bytes ≤ limit_of o))
+        is within in
     let there : Has before.files name (HoldsContent (limit_of o) (Some bytes)) =
     subst (λ found. Has before.files name (HoldsContent (limit_of o) found)) is there in
     let calls = calls_go_on o os name names next before.files bytes there in

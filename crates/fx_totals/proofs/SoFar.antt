@@ -3,7 +3,6 @@ use Rattle.std.proofs.Common.{◌≡◌, ℕ, zero, suc, ◌+◌, ◌<◌, ◌�
 use Rattle.std.proofs.Common.{subst, Option, None, Some}
 use Rattle.std.proofs.lemmas.Bool.{cases_eq}
 use Rattle.std.proofs.lemmas.List.{get_or-replicate, get_or-set_other, get_or-set_same, length-replicate}
-use Rattle.std.specs.Option.{option_or}
 use Rattle.std.specs.Prelude.{slice_set}
 use Rattle.fx_nums.specs.Interval.{Interval}
 use Rattle.fx_net.specs.Net.{Net}

@@ -1,17 +1,17 @@
 -- Words of which clap states no fault name one of the commands.
 use Rattle.std.proofs.Common.{◌≡◌, ◌∙◌, sym, ap, refl, subst, ℕ, Bool, true, false, not, ◌&&◌, cond, List, []}
-use Rattle.std.proofs.Common.{◌∷◌, length, map}
+use Rattle.std.proofs.Common.{◌∷◌}
 use Rattle.std.proofs.Common.{Option, Some, None, inl, inr}
-use Rattle.std.specs.Prelude.{◌≢◌, ◌⊎◌, ◌==◌, IsSome, IsTrue, find}
+use Rattle.std.specs.Prelude.{IsSome, find}
 use Rattle.std.specs.List.{list_all, list_any}
 use Rattle.std.specs.Option.{is_some, option_and_then, option_map, option_map_or, option_or}
 use Rattle.std.specs.Str.{bytes_eq}
 use Rattle.std.proofs.lemmas.Bool.{cases_Bool, eq-eqb}
 use Rattle.std.proofs.lemmas.List.{length-map}
 use Rattle.std.proofs.lemmas.Slice.Eq.{bytes_eq-Decides}
-use Rattle.clap.specs.Words.{App, Row, Rule, Shape, Text, subcommand_of}
+use Rattle.clap.specs.Words.{App, Row, Shape, Text, subcommand_of}
 use Rattle.clap.specs.Kinds.{Kinds, or_else, check_kinds}
-use Rattle.clap.specs.Walk.{Held, Names, answers_to, nothing_held, walk, walk_from, settled, finished}
+use Rattle.clap.specs.Walk.{answers_to, nothing_held, walk, walk_from, settled, finished}
 use Rattle.clap.specs.Facts.{explicit_source}
 use Rattle.clap.specs.Takes.{is_given}
 use Rattle.clap.specs.Simple.{argument_words, built, entered, label_of, names_of, rows_at}
@@ -19,7 +19,7 @@ use Rattle.clap.specs.Faults.{check_fault, defaults_fault, entered_fault, fault_
 use Rattle.clap.proofs.OnLiterals.{clap_on_literals}
 use Rattle.fx_words.specs.Command.{Command, allows, is_plain, names_fit, operand_words, plain_of, verb_in, verb_of}
 use Rattle.fx_words.specs.Command.{with_names, word_of}
-use Rattle.fx_words.specs.Words.{FaultlessIsCommand, FaultyIsNone, IsDisallowed, PlainIsCommand, command_of}
+use Rattle.fx_words.specs.Words.{FaultlessIsCommand, FaultyIsNone, PlainIsCommand, command_of}
 use Rattle.fx_words.specs.Words.{CommandsAreWhole, IsWhole}
 use Rattle.fx_words.specs.Words.{found_command, read_of, tool_app, value_of, values_of, verb_app, where_faultless}
 use Rattle.fx_words.specs.Words.{with_operands, with_verbs}

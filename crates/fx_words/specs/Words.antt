@@ -1,7 +1,7 @@
 -- What the words of a command line ask for: in the plain form by themselves, else as clap reads them.
-use Rattle.std.specs.Prelude.{◌≡◌, ◌≢◌, ◌⊎◌, ℕ, Bool, true, false, List, [], ◌∷◌, length, map, codes, IsTrue}
-use Rattle.std.specs.Prelude.{Option, Some, None, IsSome, IsSomeAnd, IfSome, option_and_then, unwrap_or}
-use Rattle.std.specs.List.{All, list_all}
+use Rattle.std.specs.Prelude.{◌≡◌, ◌≢◌, ◌⊎◌, ℕ, true, false, List, [], ◌∷◌, map, codes, IsTrue}
+use Rattle.std.specs.Prelude.{Option, Some, None, IsSome, IfSome, option_and_then, unwrap_or}
+use Rattle.std.specs.List.{list_all}
 use Rattle.std.specs.Option.{option_or}
 use Rattle.clap.specs.Words.{App, Kinds, Row, Rule, fault_of, first_of, new_app, new_rule, subcommand_of}
 use Rattle.clap.specs.Words.{with_rule, with_subcommand}

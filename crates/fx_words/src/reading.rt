@@ -228,9 +228,9 @@ pub fn read_words(alloc: Global, words: &[String]) -> Result<Asked<'_>, AllocErr
     }
 }
 
-/// A law with nothing to run: when words are a command. Those in the plain form always are, and they are what clap reads
-/// of them too. So words are one exactly where clap states no fault of them and the command allows its operands: the
-/// three files of `make` have different names.
+/// A law with nothing to run: when words are a command. Those in the plain form always are, and they are what clap
+/// reads of them too. So words are one exactly where clap states no fault of them and the command allows its operands:
+/// the three files of `make` have different names.
 pub fn words_are_a_command()
     ensures plain { PlainIsCommand }
     ensures faultless { FaultlessIsCommand }

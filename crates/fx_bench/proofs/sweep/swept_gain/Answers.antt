@@ -1,4 +1,4 @@
-use Rattle.std.proofs.Common.{rules, ◌≡◌, ◌∙◌, ◌<◌, Some, Err, refl, sym, arith}
+use Rattle.std.proofs.Common.{rules, ◌≡◌, ◌∙◌, ◌<◌, Some, Err, sym}
 use Rattle.fx_net.specs.Tables.{net_of}
 use Rattle.fx_sweep.specs.Range.{range_at}
 use Rattle.fx_sweep.specs.Target.{start_of}

@@ -13,4 +13,5 @@ returns-in_err-test_bound c =
     let same : told_by c.from_residual.result ≡ told_by c.test_bound.result = grind (arith, common_steps) in
     let some : told_by c.test_bound.result ≡ Some (failure_in c.in_err-test_bound.field-0.0) =
     grind (arith, common_steps) in
-    first_told c.loop-j.j (row_count c.args.f.now c.args.p.now) (bound c.args.f.now c.args.p.now c.args.c.now) _ _ _ inside c.loop-j.invariant c.test_bound.ensures same some
+    first_told c.loop-j.j (row_count c.args.f.now c.args.p.now) (bound c.args.f.now c.args.p.now c.args.c.now)
+        _ _ _ inside c.loop-j.invariant c.test_bound.ensures same some

@@ -12,4 +12,5 @@ returns-in_err-test_error c =
     let same : told_by c.from_residual.result ≡ told_by c.test_error.result = grind (arith, common_steps) in
     let some : told_by c.test_error.result ≡ Some (failure_in c.in_err-test_error.field-0.0) =
     grind (arith, common_steps) in
-    first_told c.loop-o.o (length c.args.f.now.outputs) (error c.args.f.now c.args.p.now c.args.c.now) _ _ _ inside c.loop-o.invariant c.test_error.ensures same some
+    first_told c.loop-o.o (length c.args.f.now.outputs) (error c.args.f.now c.args.p.now c.args.c.now) _ _ _
+        inside c.loop-o.invariant c.test_error.ensures same some

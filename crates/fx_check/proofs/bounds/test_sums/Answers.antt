@@ -12,4 +12,5 @@ returns-in_err-test_sum c =
     let same : told_by c.from_residual.result ≡ told_by c.test_sum.result = grind (arith, common_steps) in
     let some : told_by c.test_sum.result ≡ Some (failure_in c.in_err-test_sum.field-0.0) =
     grind (arith, common_steps) in
-    first_told c.loop-i.i (length c.args.p.now.rows) (sum c.args.p.now c.args.c.now) _ _ _ inside c.loop-i.invariant c.test_sum.ensures same some
+    first_told c.loop-i.i (length c.args.p.now.rows) (sum c.args.p.now c.args.c.now) _ _ _ inside
+        c.loop-i.invariant c.test_sum.ensures same some

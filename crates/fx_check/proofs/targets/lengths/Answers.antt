@@ -8,6 +8,7 @@ loop-t-preserved c =
     let inside : c.loop-t.t < length c.loop-t.lengths = omega arith in
     record {
       long = length-set c.loop-t.lengths c.loop-t.t c.length.result ∙ c.loop-t.invariant.long;
-      first = listed_more c.loop-t.lengths c.loop-t.t (length_at c.args.f.now c.args.p.now c.args.c.now) c.length.result inside c.loop-t.invariant.first
+      first = listed_more c.loop-t.lengths c.loop-t.t (length_at c.args.f.now c.args.p.now c.args.c.now)
+          c.length.result inside c.loop-t.invariant.first
           c.length.ensures;
     }

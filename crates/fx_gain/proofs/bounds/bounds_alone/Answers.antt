@@ -16,5 +16,6 @@ returns-clause-value c =
     rw (to_z-of_z w64 c.bound_of.result fits)
     (subst (λ bs. bound_in (slice_set bs c.args.j c.bound_of.result) ≡ bound_alone c.args.f.now c.args.j)
     (sym c.no_bounds-bounds.ensures)
-    (one_alone c.args.f.now PORTS c.args.j c.bound_of.result (omega (arith, c.requires, c.filters_fit.ensures.inputs_high))
+    (one_alone c.args.f.now PORTS c.args.j c.bound_of.result (omega
+        (arith, c.requires, c.filters_fit.ensures.inputs_high))
     size))

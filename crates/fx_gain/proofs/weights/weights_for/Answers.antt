@@ -1,4 +1,5 @@
-use Rattle.std.proofs.Common.{◌≡◌, ℕ, ◌+◌, ◌*◌, ◌<◌, arith, rules, ap, sym, ◌∙◌, subst, Some, None, length, drop, take, ◌++◌}
+use Rattle.std.proofs.Common.{◌≡◌, ℕ, ◌+◌, ◌*◌, ◌<◌, arith, rules, ap, sym, ◌∙◌, subst, Some, None, length, drop}
+use Rattle.std.proofs.Common.{take, ◌++◌}
 use Rattle.std.proofs.lemmas.List.{take_at}
 use Rattle.fx_eqs.specs.declared.limits.TheConstants.{PORTS}
 use Rattle.fx_net.specs.Tables.{net_of}

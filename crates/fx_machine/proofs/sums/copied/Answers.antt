@@ -1,5 +1,5 @@
-use Rattle.std.proofs.Common.{◌≡◌, ℕ, ◌<◌, List, [], ◌∷◌, length, slice_index_or, subst, ap, ◌∙◌, arith, rules}
-use Rattle.std.specs.Int.{w64, cast_unsigned as of_z, cast_signed as to_z}
+use Rattle.std.proofs.Common.{◌≡◌, ◌<◌, List, [], ◌∷◌, length, slice_index_or, subst, ap, ◌∙◌, arith, rules}
+use Rattle.std.specs.Int.{w64}
 use Rattle.std.specs.Int.RustNames.{FitsSigned}
 use Rattle.std.proofs.lemmas.Int.{to_z-of_z}
 use Rattle.fx_machine.specs.Prepared.{plan_of, word_in, first_place, IsCopy, Suits}

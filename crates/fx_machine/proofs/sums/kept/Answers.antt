@@ -1,11 +1,10 @@
-use Rattle.std.proofs.Common.{◌≡◌, ◌+◌, ◌<◌, ◌+ℤ◌, ◌^◌, unsigned_abs, ◌∙◌, ap, arith, rules}
+use Rattle.std.proofs.Common.{◌≡◌, ◌+◌, ◌<◌, ◌^◌, unsigned_abs, ◌∙◌, ap, arith, rules}
 use Rattle.std.proofs.lemmas.Int.{ints}
 use Rattle.std.specs.Int.{w64, cast_unsigned as of_z, cast_signed as to_z}
 use Rattle.std.specs.Int.RustNames.{FitsSigned}
 use Rattle.fx_math.specs.Division.{floor_div}
 use Rattle.fx_math.specs.Residue.{wrap}
-use Rattle.fx_machine.specs.Prepared.{half_of, scaled_sum, magnitudes, is_outside, plan_of, sum_of}
-use Rattle.fx_machine.proofs.Bits.{half_small}
+use Rattle.fx_machine.specs.Prepared.{half_of, magnitudes, is_outside, plan_of, sum_of}
 use Rattle.fx_machine.proofs.Giving.{kept_gives}
 use Rattle.fx_machine.proofs.sums.kept.Goals as goal
 

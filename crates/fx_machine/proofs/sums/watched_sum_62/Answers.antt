@@ -37,6 +37,7 @@ loop-term-preserved c =
     record {
       value = omega (arith, ints, value, adds, c.loop-term.invariant.value);
       reach = omega (arith, ints, reach, adds, c.loop-term.invariant.reach);
-      watched = rw (or_reaches bits _ raised) (watched_step bits c.args.words.now c.args.terms.now i sum next _ _ _ below
+      watched = rw (or_reaches bits _ raised) (watched_step bits c.args.words.now c.args.terms.now i sum next _
+          _ _ below
           adds outside c.loop-term.invariant.watched);
     }

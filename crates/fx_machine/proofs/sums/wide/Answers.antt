@@ -1,11 +1,10 @@
-use Rattle.std.proofs.Common.{◌≡◌, ◌+◌, ◌<◌, ◌≤◌, ◌+ℤ◌, ◌^◌, unsigned_abs, ◌∙◌, ap, arith, rules}
+use Rattle.std.proofs.Common.{◌≡◌, ◌+◌, ◌<◌, ◌+ℤ◌, ◌^◌, unsigned_abs, ◌∙◌, ap, arith, rules}
 use Rattle.std.proofs.lemmas.Int.{ints}
 use Rattle.std.specs.Int.{w64, w128, cast_unsigned as of_z, cast_signed as to_z}
 use Rattle.std.specs.Int.RustNames.{FitsSigned}
 use Rattle.fx_math.specs.Division.{floor_div}
 use Rattle.fx_math.specs.Residue.{wrap}
-use Rattle.fx_machine.specs.Prepared.{half_of, scaled_sum, magnitudes, is_outside, plan_of, sum_of, read_of, is_partial}
-use Rattle.fx_machine.proofs.Bits.{half_small}
+use Rattle.fx_machine.specs.Prepared.{scaled_sum, magnitudes, is_outside, plan_of, sum_of, read_of, is_partial}
 use Rattle.fx_machine.proofs.Giving.{gives}
 use Rattle.fx_machine.proofs.Reaching.{sum_small}
 use Rattle.fx_machine.proofs.sums.wide.Goals as goal
@@ -29,7 +28,8 @@ returns c =
     let constant : to_z w64 (of_z w64 row.constant) ≡ row.constant = omega (arith, ints, fits) in
     let sum : c.watched_sum_128-sum.result.0 ≡ sum_of (plan_of row) words =
     omega (arith, ints, fits, rw c.deref.ensures.value at c.watched_sum_128-sum.ensures.sum) in
-    let z : to_z w128 (of_z w128 c.watched_sum_128-sum.result.0) ≡ c.watched_sum_128-sum.result.0 = omega (arith, ints) in
+    let z : to_z w128 (of_z w128 c.watched_sum_128-sum.result.0) ≡ c.watched_sum_128-sum.result.0 = omega
+        (arith, ints) in
     let total = c.read_128-total in
     let read : total.result.value ≡ read_of (plan_of row) words =
     total.ensures.value ∙ ap (wrap row.accumulator) (z ∙ sum) in

@@ -1,4 +1,4 @@
-use Rattle.std.proofs.Common.{◌≡◌, subst, arith, length, replicate}
+use Rattle.std.proofs.Common.{◌≡◌, subst, length, replicate}
 use Rattle.fx_eqs.specs.Fits.{EquationsFit}
 use Rattle.fx_totals.specs.Filled.{length_in}
 use Rattle.fx_totals.specs.Kept.{bound_in}

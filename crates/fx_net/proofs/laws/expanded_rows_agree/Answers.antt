@@ -1,4 +1,4 @@
-use Rattle.std.proofs.Common.{subst, arith, ◌*◌, ◌≡◌, ℕ}
+use Rattle.std.proofs.Common.{subst, arith, ◌*◌, ◌≡◌}
 use Rattle.fx_eqs.specs.Denominator.{DividesEach, common}
 use Rattle.fx_net.proofs.Agreement.{all_agree}
 use Rattle.fx_net.proofs.laws.expanded_rows_agree.Goals as goal

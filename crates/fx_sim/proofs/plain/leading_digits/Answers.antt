@@ -1,4 +1,4 @@
-use Rattle.std.proofs.Common.{◌≡◌, ◌+◌, ◌*◌, ◌-◌, ◌<◌, ◌∙◌, ap, get_or, length, sym, arith}
+use Rattle.std.proofs.Common.{◌+◌, ◌*◌, ◌-◌, ◌<◌, ◌∙◌, ap, get_or, length, sym, arith}
 use Rattle.fx_sim.specs.declared.field.TheConstants.{FIELD_DIGITS}
 use Rattle.fx_nums.specs.Signs.{IsDigit, digit_value}
 use Rattle.fx_sim.proofs.Digits.{few_digits, grows, one_digit_left}

@@ -1,6 +1,6 @@
-use Rattle.std.proofs.Common.{◌≡◌, ◌∷◌, ◌+◌, ◌-ℤ◌, ◌∙◌, List, ℕ, ℤ, pos, neg_ℤ, ap, subst, sym, take, to_z, of_z, w64, arith, rules}
+use Rattle.std.proofs.Common.{◌≡◌, ◌∷◌, ◌+◌, ◌-ℤ◌, ℤ, pos, neg_ℤ, subst, sym, take, to_z, of_z, w64, rules}
 use Rattle.fx_sim.specs.Fields.{IsField}
-use Rattle.fx_nums.specs.Signs.{minus_sign, minus_text}
+use Rattle.fx_nums.specs.Signs.{minus_sign}
 use Rattle.fx_sim.proofs.PlainFields.{bare_leads, minus_leads}
 use Rattle.fx_sim.proofs.plain.leading_number.Goals as goal
 

@@ -1,4 +1,4 @@
-use Rattle.std.proofs.Common.{◌≡◌, ◌+◌, ◌<◌, ◌∙◌, get_or, length, length-set, subst, arith}
+use Rattle.std.proofs.Common.{◌≡◌, ◌<◌, ◌∙◌, get_or, length, length-set, arith}
 use Rattle.std.proofs.lemmas.Int.{to_z-of_z}
 use Rattle.fx_sim.specs.Plain.{BeginsWithWord}
 use Rattle.fx_sim.proofs.PlainLines.{last_read, one_more}

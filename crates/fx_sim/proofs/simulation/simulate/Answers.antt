@@ -2,7 +2,7 @@ use Rattle.std.proofs.Common.{arith}
 use Rattle.std.proofs.lemmas.Result.{err_from_is_err_and}
 use Rattle.csv.specs.Records.{fields_of}
 use Rattle.fx_sim.specs.Remaining.{records_left}
-use Rattle.fx_sim.proofs.BetweenRecords.{begins, goes_on, fails, done}
+use Rattle.fx_sim.proofs.BetweenRecords.{goes_on, fails, done}
 use Rattle.fx_sim.proofs.simulation.simulate.Goals as goal
 
 pub returns-in_err-read_moment : goal.returns-in_err-read_moment
@@ -44,6 +44,7 @@ loop-reader-preserved c =
 
 pub returns : goal.returns
 returns c =
-    rw c.into_text.ensures (done c.args.program.now c.args.samples.now c.loop-reader.machine (records_left c.loop-reader.reader)
+    rw c.into_text.ensures (done c.args.program.now c.args.samples.now c.loop-reader.machine
+    (records_left c.loop-reader.reader)
     c.loop-reader.number c.loop-reader.lines c.loop-reader.invariant.between
     (c.in_ok-next_record.ensures.none c.if-branch.false))

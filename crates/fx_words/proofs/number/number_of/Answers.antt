@@ -1,4 +1,4 @@
-use Rattle.std.proofs.Common.{◌≡◌, ◌∙◌, ◌≤◌, true, length, arith, rules}
+use Rattle.std.proofs.Common.{◌≡◌, ◌∙◌, ◌≤◌, true, length, rules}
 use Rattle.std.specs.Str.{all_ascii_digits}
 use Rattle.fx_words.proofs.NumberWords.{parsed}
 use Rattle.fx_words.proofs.number.number_of.Goals as goal

@@ -36,7 +36,7 @@ loop-o-preserved g c =
     c.requires.filled in
     let here : c.split.result ≡ parts_at f p cert c.loop-o.o =
     parts_told f p cert c.filters_fit.ensures system c.programs_fit.ensures c.requires.counted.outputs g.row.N
-    c.requires.room c.empty_rows_change_nothing.ensures c.requires.whole c.requires.counted.rows c.loop-o.o output
+    c.requires.room c.empty_rows_change_nothing.ensures c.requires.whole c.loop-o.o output
     c.split.result (rw (
       c.joint_rows-rows.ensures.value,
       c.input_bounds-bounds.ensures.value,

@@ -1,6 +1,6 @@
 use Rattle.std.proofs.Common.{◌∙◌, sym}
 use Rattle.fx_eqs.proofs.FirstFault.{fault-told}
-use Rattle.fx_eqs.proofs.Kept.{system_fits}
+use Rattle.fx_eqs.proofs.SystemsFit.{system_fits}
 use Rattle.fx_eqs.proofs.system.Eqs.build.Goals as goal
 
 pub returns-in-Some-clause-fault : goal.returns-in-Some-clause-fault

@@ -1,6 +1,6 @@
 use Rattle.std.proofs.Common.{◌∙◌, ap}
 use Rattle.fx_eqs.specs.Lags.{greatest_lag}
-use Rattle.fx_eqs.proofs.Kept.{all_kept, lag_high}
+use Rattle.fx_eqs.proofs.SystemsFit.{all_kept, lag_high}
 use Rattle.fx_eqs.proofs.system.Eqs.greatest_lag.Goals as goal
 
 pub returns-clause-value : goal.returns-clause-value

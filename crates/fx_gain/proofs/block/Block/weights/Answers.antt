@@ -15,7 +15,8 @@ weights_for-requires g c =
             omega (arith, c.nets_fit.ensures.rows_high),
             (
               block.short,
-              row_within (net_of c.args.self.now.net.now) c.args.self.now.filter.now c.args.self.now.moments c.output_row.result
+              row_within (net_of c.args.self.now.net.now) c.args.self.now.filter.now c.args.self.now.moments
+                  c.output_row.result
                   block.serves c.output_row.ensures.inside,
             ),
           ),

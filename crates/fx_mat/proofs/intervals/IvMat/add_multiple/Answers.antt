@@ -1,5 +1,4 @@
 use Rattle.std.proofs.Common.{arith, to_z-of_z, ◌^◌}
-use Rattle.fx_nums.specs.Interval.{IntervalFits}
 use Rattle.fx_mat.proofs.Steps.{multiples_more}
 use Rattle.fx_mat.proofs.intervals.IvMat.add_multiple.Goals as goal
 

@@ -1,7 +1,6 @@
-use Rattle.std.proofs.Common.{◌≡◌, ◌+◌, ◌∙◌, refl, subst, sym}
+use Rattle.std.proofs.Common.{◌≡◌, ◌∙◌, refl, subst, sym}
 use Rattle.fx_net.specs.Tables.{net_of}
-use Rattle.fx_sweep.specs.Target.{start_of}
-use Rattle.fx_totals.specs.Filled.{HoldsTarget, target_in}
+use Rattle.fx_totals.specs.Filled.{target_in}
 use Rattle.fx_totals.specs.Series.{IsSoFar, KeptAtLength}
 use Rattle.fx_totals.proofs.SoFar.{moment_kept}
 use Rattle.fx_totals.proofs.at_length.AtLength.keep.Goals as goal
