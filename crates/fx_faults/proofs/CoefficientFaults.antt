@@ -201,7 +201,7 @@ cascade_true file f named h =
     let list = rows_listed k file vs got in
     in_step (some k vs) _ f past_got (some_true file k vs f (λ e. absurd cc) (count_at file k vs list))
     (λ u any past_any. in_step (at_most k vs) _ f past_any (most_true file k (ListOf kind.Numeral) vs f of list
-        (lit≤ tt))
+    (lit≤ tt))
     (λ u few past_few. in_step (matrix k SECTION_COEFFICIENTS vs) _ f past_few
     (matrix_true file k SECTION_COEFFICIENTS vs f of list refl)
     (λ cs read past_read. in_step (each_monic k 0 cs) _ f past_read
@@ -243,7 +243,7 @@ states_true file f named of h =
     let list = rows_listed k file vs got in
     in_step (some k vs) _ f past_got (some_true file k vs f (λ e. absurd cc) (count_at file k vs list))
     (λ u any past_any. in_step (at_most k vs) _ f past_any (most_true file k (ListOf kind.Numeral) vs f of list
-        (lit≤ tt))
+    (lit≤ tt))
     (λ u few past_few. absurd cc)))
 
 states_at : (file : Members) (vs : Items) → state_rows file ≡ Ok vs → IsListed key.MatA file vs

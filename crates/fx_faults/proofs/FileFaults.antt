@@ -102,7 +102,7 @@ accumulator_true file f h =
     in_step (integer_or key.Accumulator default file) _ f h
     (integer_true file key.Accumulator 0 file default f refl refl (λ none. absurd cc))
     (λ z number past_number. in_step (unless (Limit key.Accumulator z (range_of key.Accumulator).high)
-        (is_listed z)) _ f past_number
+    (is_listed z)) _ f past_number
     (λ wrong.
     let (test, e) = test_err (Limit key.Accumulator z (range_of key.Accumulator).high) f (is_listed z) wrong in
     elim (there_or_default (value_at key.Accumulator file) default z
@@ -141,7 +141,7 @@ settings_true file form f h =
       ranged = refl;
     }))
     (λ g guarded past_g. in_step (naturals_in key.Fractions file) _ f past_g
-        (numbers_true file key.Fractions f (record {
+    (numbers_true file key.Fractions f (record {
       list = record { own = refl; is = refl; entry = λ n v x. x; past = λ got limit x. x };
       other = λ e. absurd cc;
       limited = lit≤ tt;
@@ -274,7 +274,7 @@ fault_true file f h =
     in_step (coefficients_in form m p file) _ f past_both (coefficients_true form m p file f named ins outs)
     (λ c lists past_lists. in_step (settings_in form file) _ f past_lists (settings_true file form f)
     (λ settings chosen past_chosen. in_step (single form m p) _ f past_chosen
-        (single_true file form m p f named ins outs)
+    (single_true file form m p f named ins outs)
     (λ u one past_one. in_step (outputs_fit ports.inputs.low settings.accumulator ports.outputs) _ f past_one
     (outputs_near file ports settings.accumulator f held (settings_read form file settings chosen).accumulator)
     (λ u near past_near. absurd cc))))))

@@ -182,7 +182,7 @@ error_true file n t f stands h =
     (λ other e. kind_true file key.OutputsError kind.Numeral n v f held refl other e)
     (bad_true file key.OutputsError n v f tt held))
     (λ c means past_means. in_step (unless (Limit key.OutputsError (pos n) (pos 0)) (not (lt_z c.num (pos 0))))
-        _ f past_means
+    _ f past_means
     (λ wrong. let (test, e) = test_err (Limit key.OutputsError (pos n) (pos 0)) f (not (lt_z c.num (pos 0))) wrong in
     subst (IsTrueOf file) e
     (record {
@@ -223,7 +223,7 @@ output_true file form low n t f named within stands h =
       past = λ got limit x. inl x;
     }))
     (λ z held past_held. in_step (error_in n t) _ f past_held (error_true file n t f stands)
-        (λ error off past_off. absurd cc))))
+    (λ error off past_off. absurd cc))))
 
 output_fault : {W : Type 0} (low : ℤ) (place : ℕ) (vs : Items) (f : FilterFault) → each_output low place vs ≡ Err f →
     ((n : ℕ) (x : Data) → get_item n vs ≡ Some x → ¬ HasKind kind.Table x → WrongKind key.Outputs ≡ f → W) →

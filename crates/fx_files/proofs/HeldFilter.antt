@@ -305,10 +305,10 @@ filter_read t f h =
     let (form, head, past_head) = bind_ok (head_in t) _ f h in
     let (ports, both, past_both) = bind_ok (ports_in t) _ f past_head in
     let (c, lists, past_lists) = bind_ok (coefficients_in form (length ports.inputs.formats)
-        (length ports.outputs) t) _ f past_both in
+    (length ports.outputs) t) _ f past_both in
     let (settings, chosen, past_chosen) = bind_ok (settings_in form t) _ f past_lists in
     let (u, one, past_one) = bind_ok (single form (length ports.inputs.formats) (length ports.outputs)) _ f
-        past_chosen in
+    past_chosen in
     let (v, near, same) = bind_ok (outputs_fit ports.inputs.low settings.accumulator ports.outputs) (λ v.
     Ok (assembled ports c settings)) f past_one in
     subst (Describes t) (same_ok (assembled ports c settings) f same)

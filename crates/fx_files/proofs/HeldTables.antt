@@ -117,7 +117,7 @@ input_read t i h =
     let (u, keys, past_keys) = bind_ok (only_keys (key.InputsWidth ∷ key.InputsBound ∷ []) t) _ i h in
     let (width, wide, past_wide) = bind_ok (natural_in key.InputsWidth t) _ i past_keys in
     let (bound, high, same) = bind_ok (whole_or key.InputsBound (bounds_of width) (Some (top_word width)) t) _
-        i past_wide in
+    i past_wide in
     subst (DescribesInput t) (same_ok (record { width = width; bound = bound }) i same)
     (record {
       keys = only_read _ t u keys;
@@ -204,7 +204,7 @@ entry_read : (input_low : ℤ) (place : ℕ) (t : Members) (o : OutputEntry) →
 unfolding output_in
 entry_read input_low place t o h =
     let (u, keys, past_keys) = bind_ok (only_keys (key.OutputsWidth ∷ key.OutputsLow ∷ key.OutputsError ∷ [])
-        t) _ o h in
+    t) _ o h in
     let (width, wide, past_wide) = bind_ok (natural_in key.OutputsWidth t) _ o past_keys in
     let (low, held, past_held) = bind_ok (whole_or key.OutputsLow LOWS (Some input_low) t) _ o past_wide in
     let (error, off, same) = bind_ok (error_in place t) _ o past_held in

@@ -122,7 +122,7 @@ least_same net n lengths others bounds caps greatest agree high =
 pub told_below : (net : Net) (rows n : ℕ) (lengths bounds : ℕ → ℕ) (caps : List ℤ) (least : Least) (x : ℕ → ℕ) →
     caps ≡ replicate rows (pos GREATEST_BOUND) → n ≤ rows →
     Tells (least_by_raises net n lengths bounds (bound_in caps)) least x → Tells
-        (raises_up net n lengths bounds) least x
+    (raises_up net n lengths bounds) least x
 unfolding raises_up
 told_below net rows n lengths bounds caps least x are inside told =
     subst (λ r. Tells r least x)

@@ -37,7 +37,7 @@ peaks_enclose filter p kept law are o j l h =
     let each : All (λ n. 0 < n) filter.settings.lengths =
     λ k d i. (let low = (kept.settings.lengths.each k d i).0 in omega (arith, ints, low)) in
     let first = first_serves (original_net filter) filter (λ n. 0 < n) filter.settings.lengths p.moments each
-        are.serves in
+    are.serves in
     subst (EnclosesPeak filter o j (interval_of p o j)) (sym (are.words_are o j l h))
     (subst (λ v. EnclosesPeak filter o j v (worst_words (original_net filter) filter p.moments o j))
     (sym (are.intervals_are o j l h))

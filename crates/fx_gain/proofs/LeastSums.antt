@@ -72,7 +72,7 @@ total_only (suc n) j f l none = elim (cases_lt j n) [
       omega (arith, ints, before, here))
   | inr from ↦ (let same : n ≡ j = omega (arith, l, from) in
       let before : total n f ≡ pos 0 = total_none n f (λ i h. none i (omega (arith, h))
-          (λ e. omega (arith, e, h, same))) in
+      (λ e. omega (arith, e, h, same))) in
       let here : f n ≡ f j = ap f same in
       omega (arith, ints, before, here))
 ]

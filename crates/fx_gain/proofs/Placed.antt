@@ -62,7 +62,7 @@ grid_at (suc n) m p k f d l h = elim (cases_lt p n) [
   | inr from ↦ (let same : n ≡ p = omega (arith, l, from) in
       subst (λ q. get_or (joined (suc n) (λ p. joined m (λ k. f p k ∷ []))) (q * m + k) d ≡ f q k) same
       (get_or-append_right (joined n (λ p. joined m (λ k. f p k ∷ []))) (joined m (λ k. f n k ∷ [])) (n * m)
-          (n * m + k) d
+      (n * m + k) d
       (length_grid n m f) (omega arith)
       ∙ ap (λ i. get_or (joined m (λ k. f n k ∷ [])) i d) (let e : n * m + k - n * m ≡ k = omega arith in e)
       ∙ single_at m k (f n) d h))

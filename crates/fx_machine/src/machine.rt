@@ -1,9 +1,7 @@
-ghost use Rattle.std.specs.Prelude.{◌≡◌, ℕ, ◌++◌, List, [], ◌∷◌, ℤ, pos, length, replicate, IfOk};
+ghost use Rattle.std.specs.Prelude.{◌≡◌, List, [], ℤ, pos, length, replicate, IfOk};
 ghost use Rattle.fx_code.specs.Code.{Code};
-ghost use Rattle.fx_code.specs.Inputs.{word_at, IsMoment};
-ghost use Rattle.fx_machine.specs.Marks.{IsClearWhere, StaysInside};
-ghost use Rattle.fx_code.specs.Run.{IsExact, outputs_at};
-ghost use Rattle.fx_machine.specs.Moments.{StandsAfter};
+ghost use Rattle.fx_code.specs.Inputs.{IsMoment};
+ghost use Rattle.fx_machine.specs.Moments.{GivesMoment, StandsAfter};
 
 use crate::moment::{Marks, begin, put_out, run_rows};
 use crate::places::WORD_COUNT;
@@ -54,16 +52,8 @@ impl<'p> Machine<'p> {
         requires input { IsMoment self.old.program input.now }
         requires output { length output.old ≡ length self.old.program.outputs }
         ensures program { self.new.program ≡ self.old.program }
-        ensures stands { (p : Code) (list : List (List ℤ)) → StandsAfter self.old p list →
-            StandsAfter self.new p (list ++ input.now ∷ []) }
-        ensures output { (p : Code) (list : List (List ℤ)) → StandsAfter self.old p list →
-            output.new ≡ outputs_at p (word_at (list ++ input.now ∷ [])) (length list) }
-        ensures lost { (p : Code) (list : List (List ℤ)) → StandsAfter self.old p list →
-            IsClearWhere (IsExact p (word_at (list ++ input.now ∷ [])) (length list)) (length p.rows)
-            result.lost }
-        ensures partial { (p : Code) (list : List (List ℤ)) → StandsAfter self.old p list →
-            IsClearWhere (StaysInside p (word_at (list ++ input.now ∷ [])) (length list)) (length p.rows)
-            result.partial }
+        ensures moment { (p : Code) (list : List (List ℤ)) → StandsAfter self.old p list →
+            GivesMoment self.new p list input.now output.new result }
     {
         let program = self.program;
         begin(&mut self.words, program.rows(), input);

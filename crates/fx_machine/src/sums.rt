@@ -116,7 +116,7 @@ fn watched_sum_128(constant: i64, terms: &[ScaledTerm], words: &[i64], bits: u8)
     (sum, left)
 }
 
-// ---- rows
+// ---- words
 
 // The word that a row keeps of its accumulator.
 fn stored(accumulator: i64, row: &PreparedRow) -> Reading

@@ -49,8 +49,12 @@ ceil_up a t h = omega (arith, ints, ceil_of_positive (pos a) a (div_ceil a t) t 
 
 pub floor_down : (a t : ℕ) → 0 < t → floor_div (neg_ℤ (pos a)) t ≡ neg_ℤ (pos (div_ceil a t))
 floor_down zero t h = omega (arith, ints, nothing_over t h)
-floor_down (suc a) t h = omega (arith, ints, floor_of_negative (negsuc a) (suc a) (div_ceil (suc a) t) t h
-    (omega (arith, ints)) refl refl)
+floor_down (suc a) t h = omega (
+  arith,
+  ints,
+  floor_of_negative (negsuc a) (suc a) (div_ceil (suc a) t) t h
+      (omega (arith, ints)) refl refl,
+)
 
 pub ceil_down : (a t : ℕ) → ceil_div (neg_ℤ (pos a)) t ≡ neg_ℤ (pos (a / t))
 ceil_down zero t = refl
@@ -73,8 +77,12 @@ up_ends w n x m t f c h e a b g k =
 
 -- a product of numbers below 2 ^ 64 and 2 ^ 62 is taken exactly
 pub small_is_exact : (w n : ℤ) → unsigned_abs w < 2 ^ 64 → unsigned_abs n < 2 ^ 62 → is_exact w n ≡ true
-small_is_exact w n h k = lt-ltb _ _ (omega (arith, unsigned_abs-mul w n, mul-lt-mul (unsigned_abs w)
-    (unsigned_abs n) h k))
+small_is_exact w n h k = lt-ltb _ _ (omega (
+  arith,
+  unsigned_abs-mul w n,
+  mul-lt-mul (unsigned_abs w)
+      (unsigned_abs n) h k,
+))
   where
     mul-lt-mul : (a b : ℕ) → a < 2 ^ 64 → b < 2 ^ 62 → a * b < 2 ^ 126
     mul-lt-mul a b h k = omega (arith, mul-le-mul_right b (le_of_lt h), k)

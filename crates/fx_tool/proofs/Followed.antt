@@ -114,7 +114,7 @@ pub after_read : {X : Type 0} (o : Operand) (os : List Operand) (name : List ℕ
     Follows (o ∷ os) (name ∷ names) (Reads next) before now result
 after_read o os name names next before middle now found bytes read value result ok is within there first later =
     let short : length bytes ≤ limit_of o = subst (λ found. IfSome found (λ bytes. length bytes ≤ limit_of o))
-        is within in
+    is within in
     let there : Has before.files name (HoldsContent (limit_of o) (Some bytes)) =
     subst (λ found. Has before.files name (HoldsContent (limit_of o) found)) is there in
     let calls = calls_go_on o os name names next before.files bytes there in

@@ -14,4 +14,4 @@ returns-in_err-test_bound c =
     let some : told_by c.test_bound.result ≡ Some (failure_in c.in_err-test_bound.field-0.0) =
     grind (arith, common_steps) in
     first_told c.loop-j.j (row_count c.args.f.now c.args.p.now) (bound c.args.f.now c.args.p.now c.args.c.now)
-        _ _ _ inside c.loop-j.invariant c.test_bound.ensures same some
+    _ _ _ inside c.loop-j.invariant c.test_bound.ensures same some

@@ -13,4 +13,4 @@ returns-in_err-test_error c =
     let some : told_by c.test_error.result ≡ Some (failure_in c.in_err-test_error.field-0.0) =
     grind (arith, common_steps) in
     first_told c.loop-o.o (length c.args.f.now.outputs) (error c.args.f.now c.args.p.now c.args.c.now) _ _ _
-        inside c.loop-o.invariant c.test_error.ensures same some
+    inside c.loop-o.invariant c.test_error.ensures same some

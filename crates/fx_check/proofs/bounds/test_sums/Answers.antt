@@ -13,4 +13,4 @@ returns-in_err-test_sum c =
     let some : told_by c.test_sum.result ≡ Some (failure_in c.in_err-test_sum.field-0.0) =
     grind (arith, common_steps) in
     first_told c.loop-i.i (length c.args.p.now.rows) (sum c.args.p.now c.args.c.now) _ _ _ inside
-        c.loop-i.invariant c.test_sum.ensures same some
+    c.loop-i.invariant c.test_sum.ensures same some

@@ -13,4 +13,4 @@ returns-in_err-test_wanted_error c =
     let some : told_by c.test_wanted_error.result ≡ Some (failure_in c.in_err-test_wanted_error.field-0.0) =
     grind (arith, common_steps) in
     first_told c.loop-o.o (length c.args.f.now.outputs) (wanted c.args.f.now c.args.c.now) _ _ _ inside
-        c.loop-o.invariant c.test_wanted_error.ensures same some
+    c.loop-o.invariant c.test_wanted_error.ensures same some

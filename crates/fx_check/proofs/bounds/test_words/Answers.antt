@@ -13,4 +13,4 @@ returns-in_err-test_word c =
     let some : told_by c.test_word.result ≡ Some (failure_in c.in_err-test_word.field-0.0) =
     grind (arith, common_steps) in
     first_told c.loop-i.i (length c.args.p.now.rows) (word c.args.p.now c.args.c.now) _ _ _ inside
-        c.loop-i.invariant c.test_word.ensures same some
+    c.loop-i.invariant c.test_word.ensures same some

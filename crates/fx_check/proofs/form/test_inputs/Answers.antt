@@ -13,4 +13,4 @@ returns-in_err-test_input c =
     let some : told_by c.test_input.result ≡ Some (failure_in c.in_err-test_input.field-0.0) =
     grind (arith, common_steps) in
     first_told c.loop-j.j (length c.args.f.now.inputs) (input_width c.args.f.now c.args.p.now) _ _ _ inside
-        c.loop-j.invariant c.test_input.ensures same some
+    c.loop-j.invariant c.test_input.ensures same some

@@ -13,4 +13,4 @@ returns-in_err-test_output c =
     let some : told_by c.test_output.result ≡ Some (failure_in c.in_err-test_output.field-0.0) =
     grind (arith, common_steps) in
     first_told c.loop-o.o (length c.args.f.now.outputs) (output_width c.args.f.now c.args.p.now) _ _ _ inside
-        c.loop-o.invariant c.test_output.ensures same some
+    c.loop-o.invariant c.test_output.ensures same some

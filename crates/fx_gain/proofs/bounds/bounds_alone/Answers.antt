@@ -17,5 +17,5 @@ returns-clause-value c =
     (subst (λ bs. bound_in (slice_set bs c.args.j c.bound_of.result) ≡ bound_alone c.args.f.now c.args.j)
     (sym c.no_bounds-bounds.ensures)
     (one_alone c.args.f.now PORTS c.args.j c.bound_of.result (omega
-        (arith, c.requires, c.filters_fit.ensures.inputs_high))
+    (arith, c.requires, c.filters_fit.ensures.inputs_high))
     size))

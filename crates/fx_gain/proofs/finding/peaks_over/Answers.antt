@@ -64,6 +64,6 @@ returns g c =
       words_are = λ o j l h.
           ap (λ (ws : List (List ℤ)). get_or ws (o * length c.inputs.result.now + j) []) c.loop-o.invariant.words
           ∙ ap (λ i. get_or (joined c.loop-o.o (λ p. joined n (λ k. worst_words net f m p k ∷ []))) (o * i + j)
-              []) inputs
+          []) inputs
           ∙ grid_at c.loop-o.o n o j (λ p k. worst_words net f m p k) [] (omega (arith, l, all, outputs)) h;
     }

@@ -29,7 +29,7 @@ returns c =
     let sum : c.watched_sum_128-sum.result.0 ≡ sum_of (plan_of row) words =
     omega (arith, ints, fits, rw c.deref.ensures.value at c.watched_sum_128-sum.ensures.sum) in
     let z : to_z w128 (of_z w128 c.watched_sum_128-sum.result.0) ≡ c.watched_sum_128-sum.result.0 = omega
-        (arith, ints) in
+    (arith, ints) in
     let total = c.read_128-total in
     let read : total.result.value ≡ read_of (plan_of row) words =
     total.ensures.value ∙ ap (wrap row.accumulator) (z ∙ sum) in

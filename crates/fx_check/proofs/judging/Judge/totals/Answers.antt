@@ -49,5 +49,5 @@ returns g c =
     let system : EquationsFit c.args.f.now.equations = subst EquationsFit c.eqs.ensures.value c.systems_fit.ensures in
     has_totals c.args.f.now c.args.p.now c.args.c.now c.filters_fit.ensures system c.programs_fit.ensures
     c.requires.counted.outputs g.row.N c.requires.room c.empty_rows_change_nothing.ensures c.requires.whole
-        c.loop-t.totals
+    c.loop-t.totals
     (λ t l. c.loop-t.invariant.first t (omega (arith, l)))

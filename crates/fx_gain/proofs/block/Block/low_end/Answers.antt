@@ -45,6 +45,6 @@ returns-clause-value g c =
     ∙ ap (λ r. total k.size (λ i. kept_width k r i *ℤ pos (bound_in x i))) c.output_row.ensures.value in
     to_z-of_z w128 c.less_widths.result s ∙ c.less_widths.ensures.value
     ∙ low_is net f m c.args.o c.args.j c.args.weights.now c.requires.weights port k x _ _ _
-        c.args.self.now.serves inside
+    c.args.self.now.serves inside
     c.requires.alone (to_z-of_z w128 c.least_sum.result a ∙ c.least_sum.ensures.value)
     (to_z-of_z w64 c.bound_of.result b ∙ c.bound_of.ensures.value) cut

@@ -1,9 +1,7 @@
-use Rattle.std.proofs.Common.{◌≡◌, ℤ, List, [], ◌∷◌, ◌++◌, length, take, subst, sym, ◌∙◌}
+use Rattle.std.proofs.Common.{ℤ, List, [], ◌∷◌, ◌++◌, length, take, subst, sym, ◌∙◌}
 use Rattle.fx_code.specs.Code.{Code}
 use Rattle.fx_code.specs.Inputs.{word_at, IsMoment}
-use Rattle.fx_machine.specs.Marks.{StaysInside, IsClearWhere}
-use Rattle.fx_machine.specs.Moments.{State, StandsAfter}
-use Rattle.fx_code.specs.Run.{IsExact, outputs_at}
+use Rattle.fx_machine.specs.Moments.{GivesMoment, State, StandsAfter}
 use Rattle.fx_machine.specs.Standing.{state_of, Begins}
 use Rattle.fx_machine.proofs.Following.{Starts}
 use Rattle.fx_machine.proofs.Marking.{partial_marks, lost_marks}
@@ -23,45 +21,23 @@ begins c p list stands =
     starts q list c.args.input.now c.self.inside.words c.begin.new.words c.self.invariant.fits here.1
     c.self.invariant.words begun input
 
-pub returns-clause-stands : goal.returns-clause-stands
-returns-clause-stands c p list stands =
+pub returns-clause-moment : goal.returns-clause-moment
+returns-clause-moment c p list stands =
     let q = c.self.inside.program.now in
+    let u = word_at (list ++ c.args.input.now ∷ []) in
+    let k = length list in
+    let begun = c.begin.new.words in
+    let done = c.run_rows-marks.new.words in
+    let marks = c.run_rows-marks.result in
+    let fits = c.self.invariant.fits in
+    let here = begins c p list stands in
+    let after : State = record { program = q; words = take (length q.rows) done } in
     let same = (of_fields c.args.self.now (state_of c.self.inside) p list c.self.view_is stands).0 in
-    let further = stands_further q list c.args.input.now c.begin.new.words c.run_rows-marks.new.words
-    c.self.invariant.fits (begins c p list stands) c.run_rows-marks.ensures.words in
-    subst (λ (x : Code). StandsAfter (record {
-      program = q;
-      words =
-          take (length q.rows) c.run_rows-marks.new.words;
-    }) x (list ++ c.args.input.now ∷ [])) same further
-
-pub returns-clause-output : goal.returns-clause-output
-returns-clause-output c p list stands =
-    let q = c.self.inside.program.now in
-    let same = (of_fields c.args.self.now (state_of c.self.inside) p list c.self.view_is stands).0 in
-    let put = outputs_are q (word_at (list ++ c.args.input.now ∷ [])) (length list) c.begin.new.words
-    c.run_rows-marks.new.words c.self.invariant.fits (begins c p list stands) c.run_rows-marks.ensures.words
-    in
-    subst (λ (x : Code). c.put_out.new.output
-    ≡ outputs_at x (word_at (list ++ c.args.input.now ∷ [])) (length list)) same (c.put_out.ensures
-    ∙ (rw c.outputs.ensures.value put))
-
-pub returns-clause-lost : goal.returns-clause-lost
-returns-clause-lost c p list stands =
-    let q = c.self.inside.program.now in
-    let same = (of_fields c.args.self.now (state_of c.self.inside) p list c.self.view_is stands).0 in
-    let marks = lost_marks q (word_at (list ++ c.args.input.now ∷ [])) (length list) c.begin.new.words
-    c.run_rows-marks.result.lost c.self.invariant.fits (begins c p list stands) c.run_rows-marks.ensures.lost
-    in
-    subst (λ (x : Code). IsClearWhere (IsExact x (word_at (list ++ c.args.input.now ∷ [])) (length list))
-    (length x.rows) c.run_rows-marks.result.lost) same marks
-
-pub returns-clause-partial : goal.returns-clause-partial
-returns-clause-partial c p list stands =
-    let q = c.self.inside.program.now in
-    let same = (of_fields c.args.self.now (state_of c.self.inside) p list c.self.view_is stands).0 in
-    let marks = partial_marks q (word_at (list ++ c.args.input.now ∷ [])) (length list) c.begin.new.words
-    c.run_rows-marks.result.partial c.self.invariant.fits (begins c p list stands)
-    c.run_rows-marks.ensures.partial in
-    subst (λ (x : Code). IsClearWhere (StaysInside x (word_at (list ++ c.args.input.now ∷ [])) (length list))
-    (length x.rows) c.run_rows-marks.result.partial) same marks
+    let put = outputs_are q u k begun done fits here c.run_rows-marks.ensures.words in
+    let gives : GivesMoment after q list c.args.input.now c.put_out.new.output marks = record {
+      stands = stands_further q list c.args.input.now begun done fits here c.run_rows-marks.ensures.words;
+      output = c.put_out.ensures ∙ (rw c.outputs.ensures.value put);
+      lost = lost_marks q u k begun marks.lost fits here c.run_rows-marks.ensures.lost;
+      partial = partial_marks q u k begun marks.partial fits here c.run_rows-marks.ensures.partial;
+    } in
+    subst (λ (x : Code). GivesMoment after x list c.args.input.now c.put_out.new.output marks) same gives
