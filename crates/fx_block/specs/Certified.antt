@@ -17,6 +17,11 @@ use Rattle.fx_block.specs.Sound.{IsSound}
 abbrev pub PassingIsSound : Filter → Code → Certificate → Type 0
 PassingIsSound filter p c = IsWhole p → Passes filter p c → IsSound filter p c.errors
 
+-- a program and a certificate pass for a filter, and the program is sound for it with the certificate's errors
+pub record PassesSound (filter : Filter) (p : Code) (c : Certificate) : Type 0 where
+  pub passes : Passes filter p c
+  pub sound : IsSound filter p c.errors
+
 -- and on each admissible input list each expanded row of the filter, where it has just what it reads, is within its
 -- bound at all moments, in each net that has these rows
 abbrev pub OriginalStaysWithin : Filter → Code → Certificate → Type 0

@@ -7,8 +7,7 @@ use Rattle.fx_files.specs.Plan.{filter_of_sections}
 use Rattle.fx_files.specs.declared.forms.Structure.TheVariants.{Df2t}
 use Rattle.fx_files.specs.declared.plan.Plan.{Plan}
 use Rattle.fx_code.specs.Code.{Code, IsWhole}
-use Rattle.fx_block.specs.Passes.{Passes}
-use Rattle.fx_block.specs.Sound.{IsSound}
+use Rattle.fx_block.specs.Certified.{PassesSound}
 use Rattle.fx_make.specs.Made.{Makes, found}
 use Rattle.fx_make.specs.declared.answer.Made.{Made}
 use Rattle.fx_make.specs.declared.answer.MakeFault.TheVariants as fault
@@ -54,8 +53,7 @@ HasStructure f = IsOk (found f)
 pub record IsMadeOfFilter (f : Filter) (made : Made) : Type 0 where
   pub first : Makes f (Ok made)
   pub whole : IsWhole made.program
-  pub passes : Passes f made.program made.cert
-  pub sound : IsSound f made.program made.cert.errors
+  pub judged : PassesSound f made.program made.cert
 
 abbrev pub IsMade : Filter → Result Made JobFault → Type 0
 IsMade f (Ok made) = IsMadeOfFilter f made

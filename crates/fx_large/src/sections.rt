@@ -1,6 +1,6 @@
 //! Sections and samples that are drawn.
 
-ghost use Rattle.std.specs.Prelude.{◌≡◌, IfOk, pos, ◌<◌, ◌≤◌, unsigned_abs};
+ghost use Rattle.std.specs.Prelude.{◌≡◌, IfOk, OnErr, OnOk, pos, ◌<◌, ◌≤◌, unsigned_abs};
 ghost use Rattle.fx_files.specs.Plan.{SectionsFit};
 ghost use Rattle.fx_large.specs.Draws.{draw, next_state, state_after};
 ghost use Rattle.fx_large.specs.Sections.{
@@ -69,16 +69,19 @@ fn section(draws: &mut Draws) -> [Frac; 6]
 }
 
 /// The sections that are drawn from a number, one behind the other: b0 b1 b2 a0 a1 a2 of each. The draws of samples
-/// follow. Its error is want of memory.
+/// follow. Its error is want of memory, which leaves the draws as they were.
 pub fn drawn_sections(alloc: Global, draws: &mut Draws) -> Result<Vec<Frac>, AllocError>
     ensures value { IfOk result (λ v. v.items ≡ sections_of draws.old.state) }
     ensures fits { IfOk result (λ v. SectionsFit v.items) }
-    ensures state { IfOk result (λ _. draws.new.state ≡ samples_state draws.old.state) }
+    ensures state { OnOk result (draws.new.state ≡ samples_state draws.old.state) }
+    ensures refused { OnErr result (draws.new ≡ draws.old) }
 {
+    let mut ahead = *draws;
     let mut sections = Vec::new(alloc);
     for _ in 0..SECTIONS_DRAWN {
-        sections.extend_from_slice(&section(draws))?;
+        sections.extend_from_slice(&section(&mut ahead))?;
     }
+    *draws = ahead;
     Ok(sections)
 }
 

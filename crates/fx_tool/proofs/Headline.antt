@@ -462,8 +462,8 @@ made law none files files' filter code cert before after apart h served grows le
           serves.spelled;
       certificate_text = there (get files' cert) _ (λ bytes. IsTextOf bytes (made_certificate f c.length p))
           hold.third_there serves.text;
-      passes = serves.passes;
-      sound = serves.sound;
+      passes = serves.judged.passes;
+      sound = serves.judged.sound;
       accepted = ap (λ (a : Answer). a.status) (passing_files law none files' filter code cert f (made_program f p)
           (made_certificate f c.length p) (record {
             filter_bytes = bytes;
@@ -475,7 +475,7 @@ made law none files files' filter code cert before after apart h served grows le
             described = described;
             spelled = serves.spelled;
             text = serves.text;
-          }) serves.passes);
+          }) serves.judged.passes);
       printed = subst (λ (t : List ℕ). GrowsBy t before after) (ap (λ (a : Answer). a.text) answer) grows;
     }
 

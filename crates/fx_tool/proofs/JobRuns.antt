@@ -15,7 +15,8 @@ use Rattle.fx_large.specs.declared.summary.Summary.{Summary}
 use Rattle.fx_findings.specs.Designs.{no_design_lines}
 use Rattle.fx_findings.specs.Large.{large_lines}
 use Rattle.fx_tool.specs.Answer.{Answer, says}
-use Rattle.fx_tool.specs.Large.{Larges, NumberIsServed, PassesSound, large_answer, number_filter, run_for, run_lines}
+use Rattle.fx_block.specs.Certified.{PassesSound}
+use Rattle.fx_tool.specs.Large.{Larges, NumberIsServed, large_answer, number_filter, run_for, run_lines}
 use Rattle.fx_tool.specs.Make.{of_found}
 use Rattle.fx_tool.specs.Writing.{GrowsBy}
 use Rattle.fx_tool.specs.declared.status.Status.TheVariants.{Done, NoDesign}
@@ -67,8 +68,7 @@ pub number_is_served : (number : ℕ) (job : Job) → IsRun (sections_of number)
 number_is_served number job h fits fit =
     let f = number_filter number in
     let made = made_is number job.made h.made in
-    found_holds f (λ q k. PassesSound f q k) job.made (found f) made.first fits fit
-    (record { passes = made.passes; sound = made.sound })
+    found_holds f (λ q k. PassesSound f q k) job.made (found f) made.first fits fit made.judged
 
 -- ---- where the answer is 0
 

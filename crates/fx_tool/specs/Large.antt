@@ -4,8 +4,7 @@ use Rattle.std.specs.Str.Parse.{digits_value}
 use Rattle.fx_code.specs.Code.{Code}
 use Rattle.fx_cert.specs.Certificate.{Certificate}
 use Rattle.fx_files.specs.Filter.{Filter}
-use Rattle.fx_block.specs.Passes.{Passes}
-use Rattle.fx_block.specs.Sound.{IsSound}
+use Rattle.fx_block.specs.Certified.{PassesSound}
 use Rattle.fx_make.specs.Candidates.{Candidate, Passing}
 use Rattle.fx_make.specs.Made.{found}
 use Rattle.fx_make.specs.Search.Progress.{Found}
@@ -54,12 +53,7 @@ large_plan names = Ends (large_answer (operand_number names))
 
 -- ---- what holds beside the answer, where that is status 0
 
--- a program and a certificate pass for the filter, so that the program is sound for it
-pub record PassesSound (f : Filter) (p : Code) (c : Certificate) : Type 0 where
-  pub passes : Passes f p c
-  pub sound : IsSound f p c.errors
-
--- so does what is made
+-- what is made passes for the number's filter, and is sound for it
 abbrev pub NumberIsServed : ℕ → Type 0
 NumberIsServed number = OfFirst (number_filter number) (λ p c. PassesSound (number_filter number) p c)
 

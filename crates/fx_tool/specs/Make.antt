@@ -11,6 +11,7 @@ use Rattle.fx_code.specs.Code.{Code}
 use Rattle.fx_text.specs.Grammar.{Spells}
 use Rattle.fx_text.specs.Writing.{code_text}
 use Rattle.fx_cert.specs.Certificate.{Certificate, IsTextOf, text_of}
+use Rattle.fx_block.specs.Certified.{PassesSound}
 use Rattle.fx_block.specs.Passes.{Passes}
 use Rattle.fx_block.specs.Sound.{IsSound}
 use Rattle.fx_make.specs.Candidates.{Candidate, Passing}
@@ -82,8 +83,7 @@ pub record Serves (f : Filter) (p : Code) (c : Certificate) : Type 0 where
   pub spelled : Spells (code_text p) p
   pub text : IsTextOf (text_of c) c
   pub short : AreShort p c
-  pub passes : Passes f p c
-  pub sound : IsSound f p c.errors
+  pub judged : PassesSound f p c
 
 -- P holds of what is made of the first candidate that passes
 abbrev pub OfFirst : Filter → (Code → Certificate → Type 0) → Type 0

@@ -11,7 +11,7 @@ run_on_samples-requires c =
     let same : c.in_ok-filter.filter ≡ job_filter s = c.in_ok-filter.ensures.value in
     let m = c.in_ok-made.made in
     has_ports s m.program m.cert
-    (subst (λ (f : Filter). Passes f m.program m.cert) same c.in_ok-made.ensures.passes)
+    (subst (λ (f : Filter). Passes f m.program m.cert) same c.in_ok-made.ensures.judged.passes)
 
 pub returns : goal.returns
 returns c =

@@ -6,7 +6,7 @@ use Rattle.fx_large.proofs.sections.drawn_sections.Given as goal
 
 abbrev pub invariant-loop : goal.invariant-loop
 invariant-loop l = record {
-  state : l.draws.state ≡ state_after (5 * l.counter) l.fn.draws.state;
+  state : l.ahead.state ≡ state_after (5 * l.counter) l.fn.draws.state;
   drawn : l.sections.items ≡ sections_from l.counter l.fn.draws.state;
   fit : AreSections l.counter l.sections.items;
 }

@@ -27,8 +27,7 @@ returns-in-Ok-clause-served c =
       spelled = c.written_code_is_spelled.ensures.spelled;
       text = record { text = refl; fits = c.certificates_fit.ensures };
       short = short;
-      passes = passes;
-      sound = c.inequalities_make_sound.ensures.sound whole passes;
+      judged = record { passes = passes; sound = c.inequalities_make_sound.ensures.sound whole passes };
     }))
 
 pub returns-in_ok-structure_fault_line-in-Err-Unbuildable-clause-answer :
