@@ -1,5 +1,5 @@
 -- Denominators of fractions.
-use Rattle.std.proofs.Common.{ℕ, ◌<◌, arith}
+use Rattle.std.proofs.Common.{◌<◌, arith}
 use Rattle.std.proofs.Math.Nat.{one-le-pow}
 use Rattle.fx_nums.specs.Fraction.{den_value}
 use Rattle.fx_nums.specs.declared.fraction.Den.{Den}

@@ -1,16 +1,16 @@
 -- The ends of products of intervals, and what lies between them.
-use Rattle.std.proofs.Common.{◌≡◌, ℕ, ◌+◌, ◌-◌, ◌*◌, ◌^◌, ◌<◌, ◌≤◌, refl, sym, ◌∙◌, arith, ap, lit<, ℤ, pos}
+use Rattle.std.proofs.Common.{◌≡◌, ℕ, ◌-◌, ◌*◌, ◌^◌, ◌<◌, ◌≤◌, refl, sym, ◌∙◌, arith, ap, lit<, ℤ, pos}
 use Rattle.std.proofs.Common.{◌*ℤ◌, ◌≤ℤ◌, unsigned_abs}
 use Rattle.std.specs.Int.{int_min, int_max}
-use Rattle.std.proofs.lemmas.Int.{ints, clamps}
+use Rattle.std.proofs.lemmas.Int.{ints}
 use Rattle.fx_math.specs.Ratio.{product_of, Ratio}
-use Rattle.fx_math.proofs.Ring.{mul_assoc, mul_comm}
+use Rattle.fx_math.proofs.Ring.{mul_assoc}
 use Rattle.fx_math.proofs.Division.{floor_below, ceil_above, mul_le_nat}
 use Rattle.fx_math.proofs.Rounding.{floor_parts, ceil_parts}
 use Rattle.fx_math.proofs.Lines.{le_trans, swapped, split_factor, line_low, line_high, corners_low}
 use Rattle.fx_math.proofs.Lines.{corners_high, rounded_low, rounded_high, min_left, min_right, max_left}
 use Rattle.fx_math.proofs.Lines.{max_right, min_within, max_within, mul_le_back}
-use Rattle.fx_nums.specs.Arithmetic.{IsScaled, IsProduct, least_of, greatest_of, times, widened}
+use Rattle.fx_nums.specs.Arithmetic.{IsScaled, IsProduct, least_of, greatest_of, times}
 use Rattle.fx_nums.specs.Enclosing.{Encloses}
 use Rattle.fx_nums.specs.Interval.{Interval}
 use Rattle.fx_nums.specs.Products.{product_down, product_up, widened_low, widened_high, IsRoundedProduct}

@@ -1,5 +1,5 @@
 -- The test for a product below 2 ^ 126.
-use Rattle.std.proofs.Common.{◌≡◌, ℕ, ◌+◌, ◌*◌, ◌/◌, ◌%◌, ◌^◌, ◌<◌, ◌≤◌, arith, sym, ◌∙◌, ap, nat_lt, ℤ, ◌*ℤ◌}
+use Rattle.std.proofs.Common.{◌≡◌, ℕ, ◌+◌, ◌*◌, ◌/◌, ◌%◌, ◌^◌, ◌<◌, arith, sym, ◌∙◌, ap, nat_lt, ℤ, ◌*ℤ◌}
 use Rattle.std.proofs.Common.{unsigned_abs, true}
 use Rattle.std.proofs.lemmas.Nat.{div-add-mod', mul-lt}
 use Rattle.std.proofs.lemmas.Int.{unsigned_abs-mul}

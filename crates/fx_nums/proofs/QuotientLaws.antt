@@ -1,11 +1,11 @@
 -- Quotients of intervals, and what lies between their ends.
 use Rattle.std.proofs.Common.{◌≡◌, ◌⊎◌, inl, inr, ℕ, zero, suc, ◌*◌, ◌^◌, ◌<◌, ◌≤◌, Bool, true, false, ◌&&◌}
-use Rattle.std.proofs.Common.{refl, sym, ◌∙◌, arith, ap, lit<, ℤ, pos, negsuc, neg_ℤ, ◌*ℤ◌, ◌≤ℤ◌, ◌<ℤ◌}
+use Rattle.std.proofs.Common.{refl, ◌∙◌, arith, ap, lit<, ℤ, pos, negsuc, neg_ℤ, ◌*ℤ◌, ◌≤ℤ◌, ◌<ℤ◌}
 use Rattle.std.proofs.Common.{unsigned_abs, int_le}
 use Rattle.std.proofs.lemmas.Int.{ints}
-use Rattle.fx_math.specs.Division.{floor_div, ceil_div}
+use Rattle.fx_math.specs.Division.{floor_div}
 use Rattle.fx_math.specs.Ratio.{product_of, Ratio}
-use Rattle.fx_math.proofs.Ring.{mul_assoc, mul_comm, mul-neg, neg-mul}
+use Rattle.fx_math.proofs.Ring.{mul_comm, mul-neg, neg-mul}
 use Rattle.fx_math.proofs.Division.{floor_below, ceil_above, floor_le-ceil, mul_le_nat}
 use Rattle.fx_math.proofs.Lines.{le_trans, swapped, split_factor, line_low, line_high, mul_le_back}
 use Rattle.fx_nums.specs.Arithmetic.{IsQuotient, least_of, greatest_of, quotient_down, quotient_up, divided}

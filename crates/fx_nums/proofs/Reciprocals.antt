@@ -1,7 +1,7 @@
 -- Division by multiplication with a reciprocal, and the tables of powers of ten and of their reciprocals.
 use Rattle.std.proofs.Common.{◌≡◌, ℕ, zero, suc, ◌+◌, ◌-◌, ◌*◌, ◌/◌, ◌%◌, ◌^◌, ◌<◌, ◌≤◌, List, [], ◌∷◌, length}
 use Rattle.std.proofs.Common.{get_or, arith, refl, sym, ◌∙◌, ap, subst, Bool, true, false, ◌&&◌, nat_le}
-use Rattle.std.proofs.lemmas.Nat.{div-add-mod', div-mul-add, mod-mul-add}
+use Rattle.std.proofs.lemmas.Nat.{div-add-mod'}
 use Rattle.std.proofs.lemmas.Bool.{leb-true}
 use Rattle.std.proofs.Math.Nat.{mul_assoc, mul_comm, mul-one, one-mul, pow-suc, pow-le-pow_right, one-le-pow}
 use Rattle.std.proofs.Math.Nat.{mul-le-mul_left, mul-le-mul_right, mul-lt-mul_of_pos_right}

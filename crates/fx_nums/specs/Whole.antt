@@ -3,6 +3,7 @@ use Rattle.std.specs.Prelude.{◌≡◌, ◌↔◌, ◌≤◌, ◌<◌, ◌^◌,
 use Rattle.std.specs.Prelude.{if◌then◌else◌, List, [], ◌∷◌, ◌++◌, Option, Some, None}
 use Rattle.std.specs.Char.{is_ascii_digit}
 use Rattle.std.specs.Fmt.{decimal}
+use Rattle.fx_nums.specs.Signs.{digit_value, digit_zero}
 
 abbrev pub begins_with_digit : List ℕ → Bool
 begins_with_digit [] = false
@@ -11,14 +12,14 @@ begins_with_digit (c ∷ cs) = is_ascii_digit c
 -- a digit stands first, and no zero before another digit
 abbrev pub begins_number : List ℕ → Bool
 begins_number [] = false
-begins_number (c ∷ cs) = is_ascii_digit c && not (c == 48 && begins_with_digit cs)
+begins_number (c ∷ cs) = is_ascii_digit c && not (c == digit_zero && begins_with_digit cs)
 
 -- the number that the digits at the front write behind those of v, each step below the limit, and what follows them
 unfoldable pub digits_from : ℕ → ℕ → List ℕ → Option (ℕ × List ℕ)
 digits_from limit v [] = Some (v, [])
 digits_from limit v (c ∷ cs) =
     if is_ascii_digit c then
-    (if nat_lt (10 * v + (c - 48)) limit then digits_from limit (10 * v + (c - 48)) cs else None) else Some
+    (if nat_lt (10 * v + digit_value c) limit then digits_from limit (10 * v + digit_value c) cs else None) else Some
     (v, c ∷ cs)
 
 -- the number below the limit that stands at the front, and what follows its last digit

@@ -12,29 +12,10 @@ ghost use Rattle.fx_nums.specs.Arithmetic.{
   quotient_up,
 };
 ghost use Rattle.fx_nums.specs.Fraction.{den_value};
-ghost use Rattle.fx_nums.specs.Products.{widened_low, widened_high};
 
 use crate::fraction::Frac;
 use crate::limits::{DROPPED_BITS, FACTOR_BITS, INTERVAL_BITS, OPERAND_BITS};
 use crate::products::mul_ends;
-
-/// A low end at the scale 2^-32, rounded down.
-pub(crate) fn end_down(v: i128) -> i128
-    requires { unsigned_abs v < 2 ^ OPERAND_BITS }
-    ensures value { result ≡ widened_low v }
-    ensures bound { unsigned_abs result ≤ 2 ^ (OPERAND_BITS - DROPPED_BITS) }
-{
-    v >> DROPPED_BITS
-}
-
-/// A high end at the scale 2^-32, rounded up.
-pub(crate) fn end_up(v: i128) -> i128
-    requires { unsigned_abs v < 2 ^ OPERAND_BITS }
-    ensures value { result ≡ widened_high v }
-    ensures bound { unsigned_abs result ≤ 2 ^ (OPERAND_BITS - DROPPED_BITS) }
-{
-    -(-v >> DROPPED_BITS)
-}
 
 // The least and the greatest of four numbers.
 fn extremes(a: i128, b: i128, c: i128, d: i128) -> (i128, i128)

@@ -22,7 +22,6 @@ ghost use Rattle.fx_math.specs.Division.{floor_div, ceil_div};
 ghost use Rattle.fx_math.specs.Ratio.{product_of, Ratio};
 ghost use Rattle.fx_nums.specs.Arithmetic.{
   IsLeastMagnitude,
-  IsScaled,
   IsWithin,
   QuotientFits,
   divided,
@@ -42,12 +41,13 @@ ghost use Rattle.fx_nums.specs.Fraction.{den_value, value_of};
 ghost use Rattle.fx_nums.specs.Products.{IsRoundedProduct, widened_low, widened_high};
 ghost use Rattle.fx_nums.specs.Interval.{IntervalFits, IsInterval, point, enclosure, plus, opposite, magnitude};
 
-use crate::ends::{end_down, end_up, product_ends, quotient_ends, scaled_ends};
+use crate::ends::{product_ends, quotient_ends, scaled_ends};
 use crate::fraction::Frac;
 use crate::limits::{
-    DROPPED_BITS, FACTOR_BITS, INTERVAL_BITS, OPERAND_BITS, SUMMAND_BITS, VALUE_BITS,
+    DROPPED_BITS, FACTOR_BITS, INTERVAL_BITS, NUMERATOR_BITS, OPERAND_BITS, SCALE_BITS,
+    SUMMAND_BITS, VALUE_BITS,
 };
-use crate::products::mul_ends;
+use crate::products::{mul_ends, widened_high, widened_low};
 use std::marker::Model;
 
 /// The numbers from `lo / 2^64` to `hi / 2^64`, both magnitudes below 2^120.
@@ -81,10 +81,10 @@ fn sum_of(a: i128, b: i128) -> i128
 
 // A numerator at the scale 2^-64.
 fn at_scale(num: i64) -> i128
-    requires { unsigned_abs num < 2 ^ 62 }
-    ensures { result ≡ num *ℤ pos (2 ^ 64) }
+    requires { unsigned_abs num < 2 ^ NUMERATOR_BITS }
+    ensures { result ≡ num *ℤ pos (2 ^ SCALE_BITS) }
 {
-    i128::from(num) * (1i128 << 64)
+    i128::from(num) * (1i128 << SCALE_BITS)
 }
 
 // A quotient, rounded down.
@@ -157,7 +157,7 @@ impl Iv {
         self.lo.unsigned_abs() < limit && self.hi.unsigned_abs() < limit
     }
 
-    /// The sums of the numbers of two intervals.
+    /// The sums of the numbers of two intervals. Both fit `SUMMAND_BITS`.
     pub fn add(self, o: Iv) -> Iv
         requires left { IntervalFits self SUMMAND_BITS }
         requires right { IntervalFits o SUMMAND_BITS }
@@ -215,7 +215,7 @@ impl Iv {
         Iv { lo, hi }
     }
 
-    /// The product of `p / 2^64` with a fraction, rounded outward.
+    /// The product of `p / 2^64` with a fraction, rounded outward. `p` is below 2^`FACTOR_BITS` in magnitude.
     pub fn multiple(p: i128, c: Frac) -> Iv
         requires { unsigned_abs p < 2 ^ FACTOR_BITS }
         ensures ends { result ≡ multiple p c }
@@ -225,7 +225,7 @@ impl Iv {
         Iv { lo, hi }
     }
 
-    /// The products of its numbers with a fraction, rounded outward.
+    /// The products of its numbers with a fraction, rounded outward. It fits `FACTOR_BITS`.
     pub fn scale(self, c: Frac) -> Iv
         requires { IntervalFits self FACTOR_BITS }
         ensures ends { result ≡ scaled self c }
@@ -245,7 +245,7 @@ impl Iv {
         ensures small { IsWithin (2 ^ (OPERAND_BITS - DROPPED_BITS)) result }
         ensures ordered { widened_low self.lo ≤ℤ widened_high self.hi }
     {
-        let (lo, hi) = (end_down(self.lo), end_up(self.hi));
+        let (lo, hi) = (widened_low(self.lo), widened_high(self.hi));
         Iv { lo, hi }
     }
 
@@ -278,7 +278,7 @@ impl Iv {
 
     /// The products of the numbers of both, where the ends fit 88 bits.
     ///
-    /// Both are first widened to ends that are whole at the scale 2^-32. None where an end of the result has a
+    /// Both fit `OPERAND_BITS`, and are first widened to ends that are whole at the scale 2^-32. None where an end of the result has a
     /// magnitude of 2^88 or more.
     pub fn times(self, o: Iv) -> Option<Iv>
         requires left { IntervalFits self OPERAND_BITS }
@@ -297,7 +297,7 @@ impl Iv {
 
     /// The quotients of the numbers of both, where the ends fit 88 bits.
     ///
-    /// The divisor is first widened to ends that are whole at the scale 2^-32. None where it then has the number 0, or
+    /// Both fit `OPERAND_BITS`. The divisor is first widened to ends that are whole at the scale 2^-32. None where it then has the number 0, or
     /// an end of the result has a magnitude of 2^88 or more.
     pub fn divide(self, o: Iv) -> Option<Iv>
         requires left { IntervalFits self OPERAND_BITS }

@@ -3,6 +3,7 @@
 ghost use Rattle.std.specs.Prelude.{
   ◌≡◌,
   ◌+◌,
+  ◌-◌,
   ◌*◌,
   ◌^◌,
   ◌<◌,
@@ -35,7 +36,7 @@ ghost use Rattle.fx_nums.specs.Products.{
 use crate::fraction::{Den, Frac};
 use crate::limits::{
     APART_BITS, DROPPED_BITS, FACTOR_BITS, GREATEST_TEN, GREATEST_TWO, NUMERATOR_BITS,
-    PRODUCT_BITS, SUMMAND_BITS,
+    OPERAND_BITS, PRODUCT_BITS, SUMMAND_BITS,
 };
 use crate::tens::magnitude_over_ten;
 
@@ -68,7 +69,7 @@ fn over_ten(n: i128, d: u8) -> (i128, i128)
 
 // `n / den` rounded down and up.
 #[inline]
-pub(crate) fn quotients(n: i128, den: Den) -> (i128, i128)
+fn quotients(n: i128, den: Den) -> (i128, i128)
     requires n_in { unsigned_abs n < 2 ^ PRODUCT_BITS }
     requires den_in { DenFits den }
     ensures floor { result.0 ≡ floor_div n (den_value den) }
@@ -105,22 +106,24 @@ fn product(p: i128, num: i64) -> i128
     p * num as i128
 }
 
-// `p / 2^32` rounded down.
+/// `p / 2^32` rounded down.
 #[inline]
-fn widened_low(p: i128) -> i128
+pub(crate) fn widened_low(p: i128) -> i128
     requires { unsigned_abs p < 2 ^ FACTOR_BITS }
     ensures value { result ≡ widened_low p }
-    ensures bound { unsigned_abs result ≤ 2 ^ 63 }
+    ensures bound { unsigned_abs result ≤ 2 ^ (FACTOR_BITS - DROPPED_BITS) }
+    ensures narrow { unsigned_abs p < 2 ^ OPERAND_BITS → unsigned_abs result ≤ 2 ^ (OPERAND_BITS - DROPPED_BITS) }
 {
     p >> DROPPED_BITS
 }
 
-// `p / 2^32` rounded up.
+/// `p / 2^32` rounded up.
 #[inline]
-fn widened_high(p: i128) -> i128
+pub(crate) fn widened_high(p: i128) -> i128
     requires { unsigned_abs p < 2 ^ FACTOR_BITS }
     ensures value { result ≡ widened_high p }
-    ensures bound { unsigned_abs result ≤ 2 ^ 63 }
+    ensures bound { unsigned_abs result ≤ 2 ^ (FACTOR_BITS - DROPPED_BITS) }
+    ensures narrow { unsigned_abs p < 2 ^ OPERAND_BITS → unsigned_abs result ≤ 2 ^ (OPERAND_BITS - DROPPED_BITS) }
 {
     -(-p >> DROPPED_BITS)
 }
@@ -128,7 +131,7 @@ fn widened_high(p: i128) -> i128
 // A product of a widened number.
 #[inline]
 fn widened_product(p: i128, num: i64) -> i128
-    requires p_in { unsigned_abs p ≤ 2 ^ 63 }
+    requires p_in { unsigned_abs p ≤ 2 ^ (FACTOR_BITS - DROPPED_BITS) }
     requires num_in { unsigned_abs num < 2 ^ NUMERATOR_BITS }
     ensures value { result ≡ p *ℤ num }
     ensures bound { unsigned_abs result < 2 ^ PRODUCT_BITS }
@@ -188,7 +191,7 @@ fn wide_ends(p: i128, num: i64, den: Den) -> (i128, i128)
 
 // Both roundings of a product.
 #[inline]
-pub(crate) fn product_ends(p: i128, num: i64, den: Den) -> (i128, i128)
+fn rounded_ends(p: i128, num: i64, den: Den) -> (i128, i128)
     requires operands { IsOperands p num (den_value den) }
     requires den_in { DenFits den }
     ensures floor { result.0 ≡ product_down p num (den_value den) }
@@ -203,16 +206,16 @@ pub(crate) fn product_ends(p: i128, num: i64, den: Den) -> (i128, i128)
 
 /// `p * c` rounded down and rounded up. Where the product is below 2^126 in magnitude both are exact; elsewhere `p` is
 /// first widened to the multiples of 2^32 next to it. The exact product lies between the two, which are less than 2^57
-/// apart.
+/// apart. `p` is below 2^`FACTOR_BITS` in magnitude.
 #[inline]
 pub fn mul_ends(p: i128, c: Frac) -> (i128, i128)
     requires { unsigned_abs p < 2 ^ FACTOR_BITS }
     ensures { IsRoundedProduct p c.num (den_value c.den) result.0 result.1 }
 {
-    product_ends(p, c.num(), c.den())
+    rounded_ends(p, c.num(), c.den())
 }
 
-/// `p * c` rounded down, as by `mul_ends`.
+/// `p * c` rounded down, as by `mul_ends`. `p` is below 2^`FACTOR_BITS` in magnitude.
 #[inline]
 pub fn floor_mul(p: i128, c: Frac) -> i128
     requires { unsigned_abs p < 2 ^ FACTOR_BITS }
@@ -224,7 +227,7 @@ pub fn floor_mul(p: i128, c: Frac) -> i128
     mul_ends(p, c).0
 }
 
-/// `p * c` rounded up, as by `mul_ends`.
+/// `p * c` rounded up, as by `mul_ends`. `p` is below 2^`FACTOR_BITS` in magnitude.
 #[inline]
 pub fn ceil_mul(p: i128, c: Frac) -> i128
     requires { unsigned_abs p < 2 ^ FACTOR_BITS }

@@ -5,7 +5,7 @@ ghost use Rattle.std.specs.Int.{div_ceil};
 use crate::limits::{GREATEST_TEN, PRODUCT_BITS};
 
 // The powers of ten up to the greatest denominator.
-const TENS: [u128; 29] = [
+const TENS: [u128; GREATEST_TEN as usize + 1] = [
     1,
     10,
     100,
@@ -38,7 +38,7 @@ const TENS: [u128; 29] = [
 ];
 
 // 2^126 over each power of ten, rounded down.
-const RECIPROCALS: [u128; 29] = [
+const RECIPROCALS: [u128; GREATEST_TEN as usize + 1] = [
     85_070_591_730_234_615_865_843_651_857_942_052_864,
     8_507_059_173_023_461_586_584_365_185_794_205_286,
     850_705_917_302_346_158_658_436_518_579_420_528,
@@ -72,7 +72,7 @@ const RECIPROCALS: [u128; 29] = [
 
 // A power of ten.
 #[inline]
-pub(crate) fn ten_power(d: u8) -> u128
+fn ten_power(d: u8) -> u128
     requires { d ≤ GREATEST_TEN }
     ensures value { result ≡ 10 ^ d }
     ensures bound { result ≤ 10 ^ GREATEST_TEN }

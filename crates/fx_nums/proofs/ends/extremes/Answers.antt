@@ -1,4 +1,4 @@
-use Rattle.std.proofs.Common.{arith, to_z-of_z, FitsSigned, rules, refl}
+use Rattle.std.proofs.Common.{to_z-of_z, FitsSigned, rules, refl}
 use Rattle.std.specs.Int.{w128}
 use Rattle.fx_nums.proofs.ends.extremes.Goals as goal
 

@@ -1,4 +1,4 @@
-use Rattle.std.proofs.Common.{arith, to_z-of_z, FitsSigned, rules}
+use Rattle.std.proofs.Common.{arith, to_z-of_z}
 use Rattle.fx_nums.proofs.EndLaws.{product_from}
 use Rattle.fx_nums.proofs.ends.product_ends.Goals as goal
 

@@ -1,5 +1,4 @@
 use Rattle.std.proofs.Common.{arith, to_z-of_z}
-use Rattle.std.proofs.lemmas.Grind.{common_steps}
 use Rattle.fx_nums.proofs.EndLaws.{scaled_from}
 use Rattle.fx_nums.proofs.ends.scaled_ends.Goals as goal
 

@@ -1,5 +1,5 @@
-use Rattle.std.proofs.Common.{arith, to_z-of_z, ◌≡◌, unsigned_abs}
-use Rattle.fx_nums.proofs.Narrow.{narrow_product, narrow_small}
+use Rattle.std.proofs.Common.{to_z-of_z}
+use Rattle.fx_nums.proofs.Narrow.{narrow_product}
 use Rattle.fx_nums.proofs.products.is_product_narrow.Goals as goal
 
 pub returns : goal.returns

@@ -1,5 +1,4 @@
 use Rattle.std.proofs.Common.{rules, arith, to_z-of_z}
-use Rattle.std.proofs.lemmas.Grind.{common_steps}
 use Rattle.fx_nums.proofs.ProductLaws.{rounded_product}
 use Rattle.fx_nums.proofs.products.mul_ends.Goals as goal
 

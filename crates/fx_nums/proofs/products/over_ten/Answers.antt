@@ -1,4 +1,4 @@
-use Rattle.std.proofs.Common.{arith, ◌≡◌, ◌^◌, unsigned_abs}
+use Rattle.std.proofs.Common.{arith, ◌^◌, unsigned_abs}
 use Rattle.std.proofs.lemmas.Int.{ints}
 use Rattle.fx_math.proofs.Rounding.{floor_of_negative, ceil_of_positive}
 use Rattle.fx_nums.proofs.Reciprocals.{ten_bounds}

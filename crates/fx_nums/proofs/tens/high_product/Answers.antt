@@ -1,5 +1,3 @@
-use Rattle.std.proofs.Common.{arith, ◌^◌, ◌/◌, ◌%◌, ◌∙◌, ap, ◌*◌}
-use Rattle.std.proofs.lemmas.Nat.{div-add-mod'}
 use Rattle.fx_nums.proofs.Reciprocals.{high_split}
 use Rattle.fx_nums.proofs.tens.high_product.Goals as goal
 

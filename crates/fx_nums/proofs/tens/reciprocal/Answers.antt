@@ -1,4 +1,4 @@
-use Rattle.std.proofs.Common.{◌≡◌, ℕ, ◌*◌, ◌^◌, arith, refl, get_or}
+use Rattle.std.proofs.Common.{◌*◌, ◌^◌, arith, refl, get_or}
 use Rattle.std.proofs.Math.Nat.{one-mul}
 use Rattle.fx_nums.specs.declared.tens.TheConstants.{RECIPROCALS}
 use Rattle.fx_nums.proofs.Reciprocals.{reciprocal_at, reciprocal_from, IsReciprocal, bound_from}

@@ -1,4 +1,4 @@
-use Rattle.std.proofs.Common.{arith, sym}
+use Rattle.std.proofs.Common.{arith}
 use Rattle.fx_nums.proofs.Reciprocals.{ten_at, ten_bounds}
 use Rattle.fx_nums.proofs.tens.ten_power.Goals as goal
 
