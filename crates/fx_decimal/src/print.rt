@@ -19,8 +19,6 @@ ghost use Rattle.std.specs.Prelude.{
   take,
   pos,
   unsigned_abs,
-  Bool,
-  if◌then◌else◌,
   ◌&&◌,
   ◌==◌,
   not,
@@ -32,10 +30,10 @@ ghost use Rattle.fx_decimal.specs.declared.limits.TheConstants.{LONGEST_DECIMAL}
 ghost use Rattle.fx_decimal.specs.Printed.{down_text, fraction_text, last_digits, lowest, units, up_text, written};
 
 use crate::limits::{LONGEST_DECIMAL, MOST_PLACES};
-use fx_nums::{Den, Frac, GREATEST_TEN};
+use fx_nums::{Den, Frac, GREATEST_TEN, SCALE_BITS};
 use std::marker::Model;
 
-/// A printed decimal: a text of at most 64 bytes.
+/// A printed decimal: a text of at most `LONGEST_DECIMAL` bytes.
 #[derive(Drop)]
 pub struct Decimal {
     text: [u8; LONGEST_DECIMAL],
@@ -148,12 +146,12 @@ fn split(magnitude: u128, places: u8, up: bool) -> (u64, u64)
     ensures below { result.1 < 10 ^ places }
 {
     let one = Den::Ten(places).value();
-    let whole = magnitude / (1 << 64);
-    let scaled = magnitude % (1 << 64) * one;
+    let whole = magnitude / (1 << SCALE_BITS);
+    let scaled = magnitude % (1 << SCALE_BITS) * one;
     let part = if up {
-        scaled.div_ceil(1 << 64)
+        scaled.div_ceil(1 << SCALE_BITS)
     } else {
-        scaled / (1 << 64)
+        scaled / (1 << SCALE_BITS)
     };
     ((whole + part / one) as u64, (part % one) as u64)
 }
@@ -169,7 +167,8 @@ fn rounded(negative: bool, magnitude: u128, places: u8, up: bool) -> Decimal
     written(negative && (whole > 0 || rest > 0), whole, rest, places)
 }
 
-/// `v / 2^64` with this many places, rounded up in the last. A zero has no sign.
+/// `v / 2^64` with this many places, 1 to `MOST_PLACES`, rounded up in the last. A zero has no sign.
+/// `v` is below 2^126 in magnitude.
 #[tactic(auto, unfolding(crate::specs::Printed::up_text))]
 pub fn print_up(v: i128, places: u8) -> Decimal
     requires range { unsigned_abs v < 2 ^ 126 }
@@ -184,7 +183,8 @@ pub fn print_up(v: i128, places: u8) -> Decimal
     }
 }
 
-/// `v / 2^64` with this many places, rounded down in the last. A zero has no sign.
+/// `v / 2^64` with this many places, 1 to `MOST_PLACES`, rounded down in the last. A zero has no sign.
+/// `v` is below 2^126 in magnitude.
 #[tactic(auto, unfolding(crate::specs::Printed::down_text))]
 pub fn print_down(v: i128, places: u8) -> Decimal
     requires range { unsigned_abs v < 2 ^ 126 }

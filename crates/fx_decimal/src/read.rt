@@ -142,8 +142,11 @@ fn value(negative: bool, whole: &[u8], after: &[u8], exponent: i64) -> Result<Fr
 /// The fraction that a decimal numeral means, exactly.
 ///
 /// A numeral is `+`, `-` or no sign, then digits with at most one point before, among or after them, then perhaps `e`
-/// or `E` with a sign or none and digits. An exponent counts as at most 9999 in magnitude. The fraction is over the
-/// least power of ten that serves.
+/// or `E` with a sign or none and digits. An exponent counts as at most `GREATEST_EXPONENT` in magnitude. The
+/// fraction is over the least power of ten that serves.
+///
+/// The error is the first fault from left to right; of a whole numeral it is that of its digits, its places or its
+/// size.
 #[tactic(auto, unfolding(crate::specs::Faults::numeral, crate::specs::Faults::parts_in))]
 pub fn read_decimal(text: &[u8]) -> Result<Frac, DecimalFault>
     ensures { result ≡ numeral text.now }

@@ -1,6 +1,6 @@
 //! What the parts of a numeral mean.
 
-ghost use Rattle.std.specs.Prelude.{◌≡◌, ◌≤◌, ◌<◌, ◌+◌, ◌*◌, ◌^◌, min, length, pos, ◌+ℤ◌, ◌≤ℤ◌, neg_ℤ, unsigned_abs};
+ghost use Rattle.std.specs.Prelude.{◌≡◌, ◌≤◌, ◌<◌, ◌+◌, ◌*◌, ◌^◌, min, length, unsigned_abs};
 ghost use Rattle.std.specs.List.{AllByRecursion};
 ghost use Rattle.fx_nums.specs.Signs.{IsDigit, number_from};
 ghost use Rattle.fx_decimal.specs.Numeral.{bounded, limited, scaled};
