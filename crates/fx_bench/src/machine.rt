@@ -1,6 +1,6 @@
 //! Steps of machines, run on drawn words.
 
-ghost use Rattle.std.specs.Prelude.{◌≡◌, ◌<◌, ℤ, List, [], ◌∷◌, ◌++◌, length, pos, IfOk};
+ghost use Rattle.std.specs.Prelude.{◌≡◌, ◌<◌, ℤ, List, [], ◌∷◌, ◌++◌, length, IfOk};
 ghost use Rattle.fx_code.specs.Code.{Code};
 ghost use Rattle.fx_machine.specs.Moments.{StandsAfter};
 ghost use Rattle.fx_bench.specs.Runs.{drawn, low_bits, next_seed, put_word, words_sum};

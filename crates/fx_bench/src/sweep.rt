@@ -1,6 +1,6 @@
 //! Sweeps of nets by recipes.
 
-ghost use Rattle.std.specs.Prelude.{◌≡◌, ◌<◌, ◌≤◌, ◌-◌, IfOk, OnOk, Some};
+ghost use Rattle.std.specs.Prelude.{◌≡◌, ◌<◌, ◌≤◌, ◌-◌, IfOk, Some};
 ghost use Rattle.fx_net.specs.Tables.{net_of};
 ghost use Rattle.fx_sweep.specs.declared.target.Target.TheVariants.{Row};
 ghost use Rattle.fx_bench.specs.Recipe.{RecipeFits};

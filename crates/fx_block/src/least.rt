@@ -28,7 +28,14 @@ ghost use Rattle.fx_sweep.specs.Target.{one};
 ghost use Rattle.fx_sweep.specs.declared.target.Target.{Target as AnyTarget};
 ghost use Rattle.fx_totals.specs.AllTime.{ServesNext};
 ghost use Rattle.fx_totals.specs.Filled.{Filled, length_in};
-ghost use Rattle.fx_totals.specs.Kept.{AreBounds, AreUpTo, IsUpTo, bound_in, greatest_bound};
+ghost use Rattle.fx_totals.specs.Kept.{
+  AreBounds,
+  AreUpTo,
+  IsUpTo,
+  bound_in,
+  greatest_bound,
+  greatest_total,
+};
 ghost use Rattle.fx_block.specs.Least.{AllServe, AreLeastBounds};
 ghost use Rattle.fx_block.specs.Raising.{OverHasNone, RestIsLeast, ended_by, first_row, least_by_raises, raises_by};
 ghost use Rattle.fx_block.specs.Raising.Raises.{Slow as SlowOf};
@@ -37,6 +44,7 @@ ghost use Rattle.fx_sweep.specs.Swept.{whole_in};
 ghost use Rattle.fx_block.specs.Told.{Tells, is_over, is_slow, kept_raise};
 
 use fx_eqs::PORTS;
+use fx_net::LARGEST_NET;
 use fx_nums::SCALE_BITS;
 use fx_totals::{TargetRange, Totals, totals_fit, totals_grow};
 
@@ -102,7 +110,7 @@ pub fn raises_find_the_least()
 
 // Whether a total, times 2^64, is at most a bound.
 fn is_at_most(total: i128, bound: i64) -> bool
-    requires total { IsUpTo (2 ^ 126 - 1) total }
+    requires total { IsUpTo greatest_total total }
     requires bound { IsUpTo greatest_bound bound }
     ensures { (result ≡ true) ↔ (total ≤ℤ (bound *ℤ one)) }
 {
@@ -111,7 +119,7 @@ fn is_at_most(total: i128, bound: i64) -> bool
 
 // Whether it is at most the bound of a row.
 fn is_within(total: i128, x: &[i64], j: usize) -> bool
-    requires total { IsUpTo (2 ^ 126 - 1) total }
+    requires total { IsUpTo greatest_total total }
     requires row { j < length x.now }
     requires bounds { AreBounds x.now }
     ensures { (result ≡ true) ↔ (total ≤ℤ (pos (bound_in x.now j) *ℤ one)) }
@@ -137,7 +145,7 @@ pub fn holds<const N: usize>(t: &Totals<N>, bounds: &[i64; PORTS], x: &[i64], j:
 
 // A total over 2^64, rounded up.
 fn rounded_up(total: i128) -> i128
-    requires { IsUpTo (2 ^ 126 - 1) total }
+    requires { IsUpTo greatest_total total }
     ensures value { result ≡ ceil_div total (2 ^ SCALE_BITS) }
     ensures fits { IsUpTo (2 ^ 62) result }
 {
@@ -146,7 +154,7 @@ fn rounded_up(total: i128) -> i128
 
 // The same as a bound.
 fn bound_of(total: i128) -> i64
-    requires { IsUpTo (2 ^ 126 - 1) total }
+    requires { IsUpTo greatest_total total }
     ensures value { result ≡ pos (unsigned_abs (ceil_div total (2 ^ SCALE_BITS))) }
     ensures fits { IsUpTo (2 ^ 62) result }
 {
@@ -269,7 +277,7 @@ fn first_changed(rows: usize, x: &[i64], next: &[i64]) -> Option<usize>
 
 // A row whose bound passes its cap.
 fn over_at(row: usize, caps: &[i64], next: &[i64]) -> Least
-    requires row { row < 64 }
+    requires row { row < LARGEST_NET }
     requires caps { row < length caps.now }
     requires next { row < length next.now }
     requires cap_sign { pos 0 ≤ℤ whole_in caps.now row }
@@ -285,7 +293,7 @@ fn over_at(row: usize, caps: &[i64], next: &[i64]) -> Least
 
 // A row that still changed.
 fn slow_at(row: usize, x: &[i64], next: &[i64]) -> Least
-    requires row { row < 64 }
+    requires row { row < LARGEST_NET }
     requires before { row < length x.now }
     requires next { row < length next.now }
     requires before_sign { pos 0 ≤ℤ whole_in x.now row }
@@ -301,7 +309,7 @@ fn slow_at(row: usize, x: &[i64], next: &[i64]) -> Least
 
 // How raises end with the one from `x` to `next`, where it is the last.
 fn end_of(rows: usize, caps: &[i64], x: &[i64], next: &[i64]) -> Least
-    requires few { rows ≤ 64 }
+    requires few { rows ≤ LARGEST_NET }
     requires cap_count { rows ≤ length caps.now }
     requires before_count { rows ≤ length x.now }
     requires next_count { rows ≤ length next.now }

@@ -25,7 +25,8 @@ use Rattle.fx_sif.proofs.LagSums.{sequence}
 use Rattle.fx_sif.proofs.OneScale.{RowsMeet, cancelled, weight}
 use Rattle.fx_sif.proofs.RowSums.{adds, adds_first, adds_here, adds_its_row, adds_no_row, adds_none}
 use Rattle.fx_sif.proofs.RowSums.{adds_second, all_add}
-use Rattle.fx_cascade.specs.Cascades.{single, taken_in, last_section, df1_section, df1_states}
+use Rattle.fx_sif.specs.Implicit.{single}
+use Rattle.fx_cascade.specs.Cascades.{taken_in, last_section, df1_section, df1_states}
 use Rattle.fx_cascade.specs.Cascades.{cascade_df1_entries, cascade_df1_form}
 use Rattle.fx_cascade.specs.Sections.{SectionsFit, count_of, b0, b1, b2, a1, a2}
 use Rattle.fx_cascade.proofs.NeverRefused.{count_fits, df1_fits}

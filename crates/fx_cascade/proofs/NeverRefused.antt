@@ -11,7 +11,8 @@ use Rattle.fx_sif.specs.declared.parts.Block.TheVariants.{K, M, P, Q}
 use Rattle.fx_sif.proofs.Ascending.{block_base, Ascends, CountsFit, fits_from, never_from, ascends_append}
 use Rattle.fx_sif.proofs.Ascending.{ascends_higher, ascends_lower, delays_ascend, joined_ascend}
 use Rattle.fx_sif.proofs.EntryCounts.{delays_count, joined_count}
-use Rattle.fx_cascade.specs.Cascades.{single, taken_in, last_section, df1_section, df1_states, cascade_df1_form}
+use Rattle.fx_sif.specs.Implicit.{single}
+use Rattle.fx_cascade.specs.Cascades.{taken_in, last_section, df1_section, df1_states, cascade_df1_form}
 use Rattle.fx_cascade.specs.Cascades.{df2t_section, state_takes, first_state, second_state, df2t_states}
 use Rattle.fx_cascade.specs.Cascades.{cascade_df2t_form}
 use Rattle.fx_cascade.specs.Sections.{SectionsFit, count_of, b0, b1, b2, a1, a2}

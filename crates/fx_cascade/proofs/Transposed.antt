@@ -27,7 +27,8 @@ use Rattle.fx_sif.proofs.OneScale.{RowsMeet, cancelled, weight}
 use Rattle.fx_sif.proofs.Recursion.{MeetsAt}
 use Rattle.fx_sif.proofs.RowSums.{adds, adds_first, adds_here, adds_its_row, adds_no_row, adds_none}
 use Rattle.fx_sif.proofs.RowSums.{adds_second, all_add}
-use Rattle.fx_cascade.specs.Cascades.{single, taken_in, last_section, df2t_section, state_takes, first_state}
+use Rattle.fx_sif.specs.Implicit.{single}
+use Rattle.fx_cascade.specs.Cascades.{taken_in, last_section, df2t_section, state_takes, first_state}
 use Rattle.fx_cascade.specs.Cascades.{second_state, df2t_states, cascade_df2t_entries, cascade_df2t_form}
 use Rattle.fx_cascade.specs.Sections.{SectionsFit, count_of, b0, b1, b2, a1, a2}
 use Rattle.fx_cascade.proofs.NeverRefused.{count_fits, df2t_fits}

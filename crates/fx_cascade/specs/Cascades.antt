@@ -4,15 +4,10 @@ use Rattle.std.specs.Prelude.{ℕ, zero, suc, ◌+◌, ◌-◌, ◌*◌, List, [
 use Rattle.fx_math.specs.Sums.{joined}
 use Rattle.fx_nums.specs.Fraction.{Fraction, one_fraction, minus}
 use Rattle.fx_sif.specs.Entries.{entry, delays}
-use Rattle.fx_sif.specs.Implicit.{Implicit}
+use Rattle.fx_sif.specs.Implicit.{Implicit, single}
 use Rattle.fx_sif.specs.declared.parts.Block.TheVariants.{J, K, L, M, N, P, Q}
 use Rattle.fx_sif.specs.declared.parts.Entry.{Entry}
-use Rattle.fx_sif.specs.declared.parts.Sizes.{Sizes}
 use Rattle.fx_cascade.specs.Sections.{count_of, b0, b1, b2, a1, a2}
-
--- one input and one output
-abbrev pub single : ℕ → ℕ → Sizes
-single t x = record { t = t; x = x; u = 1; y = 1 }
 
 -- what section i takes in, in its own row, times this
 abbrev pub taken_in : ℕ → Fraction → Entry

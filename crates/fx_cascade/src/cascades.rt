@@ -1,6 +1,6 @@
 //! The two cascades.
 
-ghost use Rattle.std.specs.Prelude.{◌≡◌, ◌≤◌, ◌<◌, ◌^◌, IfOk};
+ghost use Rattle.std.specs.Prelude.{◌≡◌, ◌<◌, IfOk};
 ghost use Rattle.fx_eqs.specs.Textbook.{sos_equations};
 ghost use Rattle.fx_sif.specs.SameOutputs.{HasOutputs};
 ghost use Rattle.fx_cascade.specs.Cascades.{cascade_df1_form, cascade_df2t_form, single};
@@ -16,19 +16,6 @@ use crate::sections::{
 use fx_nums::Frac;
 use fx_sif::{Block, Sif, Sizes, add_delays};
 use std::alloc::{AllocError, Global};
-
-// One input and one output, with so many intermediate variables and states.
-fn single(t: usize, x: usize) -> Sizes
-    requires { (t < 2 ^ 8) × (x < 2 ^ 8) }
-    ensures { result ≡ single t x }
-{
-    Sizes {
-        t: t as u8,
-        x: x as u8,
-        u: 1,
-        y: 1,
-    }
-}
 
 /// One to `SECTIONS` second-order sections one behind the other, each in the first direct form. `sections`
 /// has b0, b1, b2, a0, a1 and a2 of each section; a0 stands for 1 and is not read. The states are the two
@@ -46,7 +33,7 @@ pub fn cascade_df1(alloc: Global, sections: &[Frac]) -> Result<Sif, AllocError>
     add_last_section(&mut entries, count)?;
     cascade_df1_is_never_refused(sections);
     cascade_df1_keeps_the_outputs(sections);
-    Sif::build_unrefused(alloc, single(count, 2 * count + 2), &entries)
+    Sif::build_unrefused(alloc, Sizes::single(count, 2 * count + 2), &entries)
 }
 
 /// One to `SECTIONS` second-order sections one behind the other, each in the second direct form transposed.
@@ -64,5 +51,5 @@ pub fn cascade_df2t(alloc: Global, sections: &[Frac]) -> Result<Sif, AllocError>
     add_last_section(&mut entries, count)?;
     cascade_df2t_is_never_refused(sections);
     cascade_df2t_keeps_the_outputs(sections);
-    Sif::build_unrefused(alloc, single(count, 2 * count), &entries)
+    Sif::build_unrefused(alloc, Sizes::single(count, 2 * count), &entries)
 }

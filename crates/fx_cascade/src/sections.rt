@@ -1,9 +1,7 @@
 //! The entries of one section, and of all.
 
-ghost use Rattle.std.specs.Prelude.{◌≡◌, ◌≤◌, ◌<◌, ◌+◌, ◌-◌, ◌*◌, ◌++◌, [], ◌∷◌, length, OnOk};
+ghost use Rattle.std.specs.Prelude.{◌≡◌, ◌≤◌, ◌<◌, ◌+◌, ◌-◌, ◌*◌, ◌++◌, [], ◌∷◌, OnOk};
 ghost use Rattle.fx_math.specs.Sums.{joined};
-ghost use Rattle.fx_nums.specs.Fraction.{minus, one_fraction};
-ghost use Rattle.fx_sif.specs.Entries.{entry};
 ghost use Rattle.fx_cascade.specs.Cascades.{
   df1_section,
   df1_states,

@@ -1,6 +1,6 @@
 //! Whether bounds and errors are large enough, and words, accumulators and what is wanted larger still.
 
-ghost use Rattle.std.specs.Prelude.{◌≡◌, ℕ, ◌+◌, ◌-◌, ◌^◌, ◌<◌, ◌≤◌, length, pos, ◌+ℤ◌, ◌*ℤ◌};
+ghost use Rattle.std.specs.Prelude.{◌≡◌, ◌+◌, ◌-◌, ◌^◌, ◌<◌, ◌≤◌, length, pos, ◌+ℤ◌, ◌*ℤ◌};
 ghost use Rattle.fx_block.specs.Failure.{
   above,
   bound_failure,

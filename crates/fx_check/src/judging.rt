@@ -1,8 +1,7 @@
 //! The judgement: form, sweeps, and what the sweeps are compared with.
 
-ghost use Rattle.std.specs.Prelude.{◌≡◌, ◌+◌, ◌^◌, ◌<◌, ◌≤◌, All, IfSome, OnOk, length, Some, None};
-ghost use Rattle.std.specs.Option.{option_or};
-ghost use Rattle.fx_block.specs.Failure.{first_failure, form_failure, range_failure};
+ghost use Rattle.std.specs.Prelude.{◌≡◌, ◌+◌, ◌<◌, ◌≤◌, All, IfSome, OnOk, Some, None};
+ghost use Rattle.fx_block.specs.Failure.{first_failure, range_failure};
 ghost use Rattle.fx_block.specs.Passes.{row_count};
 ghost use Rattle.fx_check.specs.Targets.{AreCounted, AreFilled, HasTotals, padded_net};
 ghost use Rattle.fx_check.specs.Report.{IsReportOf, parts_of};

@@ -14,7 +14,8 @@ use Rattle.fx_sif.specs.declared.parts.Block.TheVariants.{K, L, M, N, Q}
 use Rattle.fx_sif.specs.declared.parts.Entry.{Entry}
 use Rattle.fx_sif.specs.declared.parts.Sizes.{Sizes}
 use Rattle.fx_sif.specs.Entries.{coefficient, entry, across, delay_row, delays}
-use Rattle.fx_direct.specs.Forms.{order, single, df1_entries, df1_form}
+use Rattle.fx_sif.specs.Implicit.{single}
+use Rattle.fx_direct.specs.Forms.{order, df1_entries, df1_form}
 use Rattle.fx_sif.proofs.Earlier.{ago, weigh}
 use Rattle.fx_sif.proofs.Delays.{alone, delay_in, delayed, over_states}
 use Rattle.fx_sif.proofs.OneScale.{weight, RowsMeet, cancelled}

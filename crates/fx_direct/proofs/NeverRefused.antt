@@ -16,7 +16,8 @@ use Rattle.fx_sif.proofs.EntryCounts.{across_count, delays_count, joined_count}
 use Rattle.fx_sif.proofs.Ascending.{block_base, Ascends, CountsFit, number, fits_from, never_from}
 use Rattle.fx_sif.proofs.Ascending.{ascends_append, ascends_lower, one_ascends, across_ascends, rows_ascend}
 use Rattle.fx_sif.proofs.Ascending.{delays_ascend, led_ascends}
-use Rattle.fx_direct.specs.Forms.{order, single, fir_entries, fir_form, df1_entries, df1_form, df2_entries}
+use Rattle.fx_sif.specs.Implicit.{single}
+use Rattle.fx_direct.specs.Forms.{order, fir_entries, fir_form, df1_entries, df1_form, df2_entries}
 use Rattle.fx_direct.specs.Forms.{df2_form, df2t_row, first_state, df2t_entries, df2t_form}
 
 -- one input and one output

@@ -12,13 +12,13 @@ use Rattle.fx_eqs.specs.Textbook.{tf_equations}
 use Rattle.fx_net.specs.Run.{IsDenominator}
 use Rattle.fx_eqs.specs.declared.limits.TheConstants.{COEFFICIENTS}
 use Rattle.fx_sif.specs.Fits.{ImplicitFits}
-use Rattle.fx_sif.specs.Implicit.{Implicit}
+use Rattle.fx_sif.specs.Implicit.{Implicit, single}
 use Rattle.fx_sif.specs.SameOutputs.{net_alone, HasOutputs}
 use Rattle.fx_sif.specs.declared.parts.Block.TheVariants.{K, L, M, N, R}
 use Rattle.fx_sif.specs.declared.parts.Entry.{Entry}
 use Rattle.fx_sif.specs.declared.parts.Sizes.{Sizes}
 use Rattle.fx_sif.specs.Entries.{coefficient, entry, across, delay_row, delays}
-use Rattle.fx_direct.specs.Forms.{order, single, df2_form}
+use Rattle.fx_direct.specs.Forms.{order, df2_form}
 use Rattle.fx_sif.proofs.Earlier.{ago, weigh}
 use Rattle.fx_sif.proofs.Delays.{one_weighs, delay_in, delayed, over_states}
 use Rattle.fx_sif.proofs.OneScale.{weight, RowsMeet, cancelled}

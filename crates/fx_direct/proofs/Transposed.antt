@@ -16,13 +16,13 @@ use Rattle.fx_net.specs.Net.{plain}
 use Rattle.fx_net.specs.Run.{IsDenominator}
 use Rattle.fx_eqs.specs.declared.limits.TheConstants.{COEFFICIENTS}
 use Rattle.fx_sif.specs.Fits.{ImplicitFits}
-use Rattle.fx_sif.specs.Implicit.{Implicit}
+use Rattle.fx_sif.specs.Implicit.{Implicit, single}
 use Rattle.fx_sif.specs.SameOutputs.{net_alone, HasOutputs}
 use Rattle.fx_sif.specs.declared.parts.Block.TheVariants.{K, L, M, N, P, Q}
 use Rattle.fx_sif.specs.declared.parts.Entry.{Entry}
 use Rattle.fx_sif.specs.declared.parts.Sizes.{Sizes}
 use Rattle.fx_sif.specs.Entries.{coefficient, entry}
-use Rattle.fx_direct.specs.Forms.{order, single, df2t_row, first_state, df2t_form}
+use Rattle.fx_direct.specs.Forms.{order, df2t_row, first_state, df2t_form}
 use Rattle.fx_sif.proofs.Earlier.{weigh}
 use Rattle.fx_sif.proofs.Delays.{one_weighs, alone}
 use Rattle.fx_sif.proofs.OneScale.{weight, RowsMeet, cancelled, no_weight}

@@ -15,7 +15,8 @@ use Rattle.fx_sif.specs.declared.parts.Block.TheVariants.{Q, R, S}
 use Rattle.fx_sif.specs.declared.parts.Entry.{Entry}
 use Rattle.fx_sif.specs.declared.parts.Sizes.{Sizes}
 use Rattle.fx_sif.specs.Entries.{coefficient, entry, across, delay_row, delays}
-use Rattle.fx_direct.specs.Forms.{order, single, fir_entries, fir_form}
+use Rattle.fx_sif.specs.Implicit.{single}
+use Rattle.fx_direct.specs.Forms.{order, fir_entries, fir_form}
 use Rattle.fx_sif.proofs.Earlier.{weigh}
 use Rattle.fx_sif.proofs.Delays.{delay_in, delayed, over_states}
 use Rattle.fx_sif.proofs.OneScale.{weight, RowsMeet}

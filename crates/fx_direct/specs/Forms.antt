@@ -3,20 +3,15 @@
 use Rattle.std.specs.Prelude.{ℕ, ◌+◌, ◌-◌, max, nat_lt, cond, List, [], ◌∷◌, ◌++◌, length, map, drop}
 use Rattle.fx_math.specs.Sums.{joined}
 use Rattle.fx_nums.specs.Fraction.{Fraction, one_fraction, minus}
-use Rattle.fx_sif.specs.Implicit.{Implicit}
+use Rattle.fx_sif.specs.Implicit.{Implicit, single}
 use Rattle.fx_sif.specs.declared.parts.Block.{Block}
 use Rattle.fx_sif.specs.declared.parts.Block.TheVariants.{K, L, M, N, P, Q, R, S}
 use Rattle.fx_sif.specs.declared.parts.Entry.{Entry}
-use Rattle.fx_sif.specs.declared.parts.Sizes.{Sizes}
 use Rattle.fx_sif.specs.Entries.{coefficient, entry, across, delays}
 
 -- the first entry of a list is coefficient 0, so this many are behind it
 abbrev pub order : List Fraction → ℕ
 order cs = length cs - 1
-
--- one input and one output
-abbrev pub single : ℕ → ℕ → Sizes
-single t x = record { t = t; x = x; u = 1; y = 1 }
 
 -- a row over the numerator: its first coefficient in one block, the others in another
 abbrev pub numerator_row : Block → Block → List Fraction → List Entry

@@ -1,8 +1,8 @@
 //! The parts of the direct forms.
 
-ghost use Rattle.std.specs.Prelude.{◌≡◌, ◌≤◌, ◌<◌, ◌+◌, ◌++◌, [], ◌∷◌, drop, length, max, OnOk};
+ghost use Rattle.std.specs.Prelude.{◌≡◌, ◌≤◌, ◌<◌, ◌+◌, ◌++◌, length, max, OnOk};
 ghost use Rattle.fx_math.specs.Sums.{joined};
-ghost use Rattle.fx_sif.specs.Entries.{across, coefficient, entry};
+ghost use Rattle.fx_sif.specs.Entries.{coefficient};
 ghost use Rattle.fx_direct.specs.Forms.{df2t_row, first_state, numerator_row};
 
 use fx_eqs::COEFFICIENTS;

@@ -1,6 +1,6 @@
 //! The four direct forms.
 
-ghost use Rattle.std.specs.Prelude.{◌≡◌, ◌≤◌, ◌<◌, ◌+◌, ◌^◌, [], ◌∷◌, length, IfOk};
+ghost use Rattle.std.specs.Prelude.{◌≡◌, ◌≤◌, ◌<◌, ◌+◌, [], ◌∷◌, length, IfOk};
 ghost use Rattle.fx_nums.specs.Fraction.{one_fraction};
 ghost use Rattle.fx_eqs.specs.Textbook.{tf_equations};
 ghost use Rattle.fx_sif.specs.SameOutputs.{HasOutputs};
@@ -15,19 +15,6 @@ use fx_eqs::COEFFICIENTS;
 use fx_nums::Frac;
 use fx_sif::{Block, Sif, Sizes, add_against, add_delays, add_entry, coefficient};
 use std::alloc::{AllocError, Global};
-
-// One input and one output, with so many intermediate variables and states.
-fn single(t: usize, x: usize) -> Sizes
-    requires { (t < 2 ^ 8) × (x < 2 ^ 8) }
-    ensures { result ≡ record { t = t; x = x; u = 1; y = 1 } }
-{
-    Sizes {
-        t: t as u8,
-        x: x as u8,
-        u: 1,
-        y: 1,
-    }
-}
 
 /// The direct form of a filter without feedback: numerator `b` of 1 to `COEFFICIENTS` coefficients.
 /// It has a state for each earlier input that it reads, and no intermediate variable. Its error is
@@ -44,7 +31,7 @@ pub fn fir(alloc: Global, b: &[Frac]) -> Result<Sif, AllocError>
     numerator(&mut entries, Block::S, Block::R, b)?;
     fir_is_never_refused(b);
     fir_keeps_the_outputs(b);
-    Sif::build_unrefused(alloc, single(0, order), &entries)
+    Sif::build_unrefused(alloc, Sizes::single(0, order), &entries)
 }
 
 /// The first direct form: numerator `b` and denominator `a` of 1 to `COEFFICIENTS` coefficients
@@ -67,7 +54,7 @@ pub fn df1(alloc: Global, b: &[Frac], a: &[Frac]) -> Result<Sif, AllocError>
     add_entry(&mut entries, Block::L, 0, 0, Frac::one())?;
     df1_is_never_refused(b, a);
     df1_keeps_the_outputs(b, a);
-    Sif::build_unrefused(alloc, single(1, inputs + outputs), &entries)
+    Sif::build_unrefused(alloc, Sizes::single(1, inputs + outputs), &entries)
 }
 
 /// The second direct form: numerator `b` and denominator `a` of 1 to `COEFFICIENTS` coefficients
@@ -89,7 +76,7 @@ pub fn df2(alloc: Global, b: &[Frac], a: &[Frac]) -> Result<Sif, AllocError>
     numerator(&mut entries, Block::L, Block::R, b)?;
     df2_is_never_refused(b, a);
     df2_keeps_the_outputs(b, a);
-    Sif::build_unrefused(alloc, single(1, order), &entries)
+    Sif::build_unrefused(alloc, Sizes::single(1, order), &entries)
 }
 
 /// The second direct form transposed: numerator `b` and denominator `a` of 1 to `COEFFICIENTS`
@@ -111,5 +98,5 @@ pub fn df2t(alloc: Global, b: &[Frac], a: &[Frac]) -> Result<Sif, AllocError>
     add_entry(&mut entries, Block::L, 0, 0, Frac::one())?;
     df2t_is_never_refused(b, a);
     df2t_keeps_the_outputs(b, a);
-    Sif::build_unrefused(alloc, single(1, order), &entries)
+    Sif::build_unrefused(alloc, Sizes::single(1, order), &entries)
 }

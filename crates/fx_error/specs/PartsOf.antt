@@ -2,7 +2,7 @@
 use Rattle.std.specs.Prelude.{◌≡◌, ℕ, ◌-◌, ◌^◌, ℤ, ◌+ℤ◌}
 use Rattle.fx_nums.specs.Interval.{Interval}
 use Rattle.fx_net.specs.Net.{Net}
-use Rattle.fx_totals.specs.Kept.{IsUpTo}
+use Rattle.fx_totals.specs.Kept.{IsUpTo, greatest_total}
 use Rattle.fx_totals.specs.Totals.{input_part, rest_part, rounding, target_total, width_part}
 use Rattle.fx_error.specs.declared.parts.Parts.{Parts}
 
@@ -20,7 +20,7 @@ whole_of parts = parts.rounding +ℤ parts.difference +ℤ parts.rest
 
 -- none is negative, and they and their sum are below 2 ^ 126
 pub record PartsFit (parts : Parts) : Type 0 where
-  pub rounding : IsUpTo (2 ^ 126 - 1) parts.rounding
-  pub difference : IsUpTo (2 ^ 126 - 1) parts.difference
-  pub rest : IsUpTo (2 ^ 126 - 1) parts.rest
-  pub whole : IsUpTo (2 ^ 126 - 1) (whole_of parts)
+  pub rounding : IsUpTo greatest_total parts.rounding
+  pub difference : IsUpTo greatest_total parts.difference
+  pub rest : IsUpTo greatest_total parts.rest
+  pub whole : IsUpTo greatest_total (whole_of parts)

@@ -2,6 +2,7 @@
 use Rattle.std.specs.Prelude.{ℕ, ◌^◌, ℤ, pos, ◌*ℤ◌, List, [], ◌∷◌, length}
 use Rattle.fx_math.specs.Division.{floor_div}
 use Rattle.fx_nums.specs.Fraction.{Fraction, den_value}
+use Rattle.fx_nums.specs.declared.limits.TheConstants.{SCALE_BITS}
 use Rattle.fx_eqs.specs.Equations.{Equations}
 use Rattle.fx_eqs.specs.Textbook.{tf_equations, sos_equations, ss_equations, lattice_equations}
 use Rattle.fx_files.specs.Coefficients.{Coefficients, Tf, Sos, Ss, Lattice}
@@ -20,7 +21,7 @@ equations_of m p (Lattice k v) = lattice_equations k v
 
 -- an error at the scale 2 ^ -64, rounded down
 abbrev pub target_of : Fraction → ℤ
-target_of c = floor_div (c.num *ℤ pos (2 ^ 64)) (den_value c.den)
+target_of c = floor_div (c.num *ℤ pos (2 ^ SCALE_BITS)) (den_value c.den)
 
 -- the outputs, each with the row that it puts out
 unfoldable pub with_rows : List ℕ → List OutputEntry → List OutputFormat

@@ -1,7 +1,7 @@
 //! The form of a file, and which keys it may have.
 
 ghost use Rattle.std.specs.Prelude.{◌≡◌};
-ghost use Rattle.toml.specs.View.{view, table_view};
+ghost use Rattle.toml.specs.View.{table_view};
 ghost use Rattle.fx_math.specs.Answers.{Gives};
 ghost use Rattle.fx_keys.specs.Faults.{is_memory};
 ghost use Rattle.fx_keys.specs.Table.{only_keys};

@@ -1,6 +1,6 @@
 //! The inputs and outputs of a file.
 
-ghost use Rattle.std.specs.Prelude.{◌≡◌, ◌≤◌, ◌<◌, ◌≤ℤ◌, ◌-ℤ◌, pos, negsuc, length, All, IfOk};
+ghost use Rattle.std.specs.Prelude.{◌≡◌, ◌≤◌, ◌<◌, ◌≤ℤ◌, ◌-ℤ◌, pos, length, All, IfOk};
 ghost use Rattle.toml.specs.View.{table_view, items_view};
 ghost use Rattle.fx_nums.specs.Fraction.{OverTen};
 ghost use Rattle.fx_math.specs.Answers.{Gives};

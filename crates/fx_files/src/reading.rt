@@ -1,4 +1,3 @@
-ghost use Rattle.std.specs.Prelude.{length};
 ghost use Rattle.toml.specs.View.{table_view};
 ghost use Rattle.fx_math.specs.Answers.{Gives};
 ghost use Rattle.fx_keys.specs.Faults.{is_memory};

@@ -1,6 +1,6 @@
 //! What a file says on the code that is to be made.
 
-ghost use Rattle.std.specs.Prelude.{◌≡◌, ◌≤◌, ◌==◌, ◌||◌, IsTrue, IfOk};
+ghost use Rattle.std.specs.Prelude.{◌≡◌, IfOk};
 ghost use Rattle.toml.specs.View.{view, table_view};
 ghost use Rattle.fx_math.specs.Answers.{Gives};
 ghost use Rattle.fx_keys.specs.Faults.{is_memory};

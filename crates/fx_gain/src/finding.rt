@@ -5,7 +5,6 @@ ghost use Rattle.fx_net.specs.Tables.{net_of};
 ghost use Rattle.fx_gain.specs.Enclosing.{enclosure, worst_words};
 ghost use Rattle.fx_gain.specs.Lengths.{first_serving, original_count, original_net};
 ghost use Rattle.fx_gain.specs.Peaks.{ArePeaks, EachFails, EnclosePeaks, FailsSo, FindsLength};
-ghost use Rattle.fx_gain.specs.Rows.{IsBlock};
 
 use crate::block::Block;
 use crate::bounds::RowBounds;

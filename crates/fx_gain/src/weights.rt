@@ -1,6 +1,6 @@
 //! The weights of the inputs for an output, moment by moment, and what is made of them.
 
-ghost use Rattle.std.specs.Prelude.{◌≡◌, ℕ, ◌+◌, ◌-◌, ◌*◌, ◌^◌, ◌<◌, ◌≤◌, IfOk, None, [], ◌∷◌, length, pos, neg_ℤ};
+ghost use Rattle.std.specs.Prelude.{◌≡◌, ℕ, ◌+◌, ◌-◌, ◌*◌, ◌^◌, ◌<◌, ◌≤◌, IfOk, None, [], ◌∷◌, length};
 ghost use Rattle.fx_eqs.specs.declared.limits.TheConstants.{PORTS};
 ghost use Rattle.fx_math.specs.Sums.{joined, sum_below, total};
 ghost use Rattle.fx_net.specs.Tables.{net_of};

@@ -1,14 +1,12 @@
 // Contents in memory, with calls that are to fail.
 ghost use Rattle.std.specs.Prelude.{
   ◌≡◌,
-  ◌++◌,
   ◌↔◌,
   ◌<◌,
   [],
   min,
   None,
   Some,
-  true,
   IfOk,
   IfErr,
   OnOk,

@@ -22,7 +22,7 @@ pub enum FilterFault {
     Shape(Key, usize, usize),
     /// The number is out of range; the second is the end of the range next to it.
     Limit(Key, i64, i64),
-    /// A key that no line names for this form.
+    /// A key that its table may not have in a file of this form.
     UnknownKey(KeyText),
     /// The text of the key is none of its words.
     UnknownWord(Key),

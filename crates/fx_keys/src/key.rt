@@ -149,7 +149,7 @@ impl Key {
     }
 }
 
-/// The bytes of a key that a file has and no form knows.
+/// The bytes of a key that the table where it stands may not have.
 #[derive(Debug, Drop)]
 pub struct KeyText {
     text: Vec<u8>,

@@ -17,9 +17,8 @@ pub use fault::FilterFault;
 pub use key::{Key, KeyText};
 pub use limits::{
     ACCUMULATOR_WIDTHS, BOUNDS, DEFAULT_FRACTIONS, DEFAULT_GUARDS, DEFAULT_LENGTHS, FRACTIONS,
-    GREATEST_BOUND, GUARDS, LENGTHS, LIST_ENTRIES, LONGEST_BLOCK, LONGEST_FRACTION,
-    LOW_DIFFERENCES, LOWS, MOST_GUARDS, NO_NUMBERS, Range, SECTION_COEFFICIENTS, WIDTHS,
-    counts_are_these, defaults_are_these, ranges_are_these,
+    GUARDS, LENGTHS, LIST_ENTRIES, LOW_DIFFERENCES, LOWS, NO_NUMBERS, Range, SECTION_COEFFICIENTS,
+    WIDTHS, counts_are_these, defaults_are_these, ranges_are_these,
 };
 pub use numerals::{each_numeral, entries_of, matrix_of, numeral_of, rows_of};
 pub use table::{needed, only_keys, table_of, unknown_keys_come_first, value_at};

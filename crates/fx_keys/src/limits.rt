@@ -32,41 +32,20 @@ pub const ACCUMULATOR_WIDTHS: Range = Range {
     high: ACCUMULATORS[2] as i64,
 };
 
-/// The greatest bound of an input word: the greatest word of the most bits.
-pub const GREATEST_BOUND: i64 = 2147483647;
-
-/// Bounds of input words of any width.
+/// Bounds of input words of any width: up to the greatest word of the most bits.
 pub const BOUNDS: Range = Range {
     low: 0,
-    high: GREATEST_BOUND,
+    high: 2147483647,
 };
-
-/// The most guard bits.
-pub const MOST_GUARDS: u8 = 16;
 
 /// Counts of guard bits.
-pub const GUARDS: Range = Range {
-    low: 0,
-    high: MOST_GUARDS as i64,
-};
-
-/// The most bits of a coefficient's fraction.
-pub const LONGEST_FRACTION: u8 = 40;
+pub const GUARDS: Range = Range { low: 0, high: 16 };
 
 /// Counts of bits of a coefficient's fraction.
-pub const FRACTIONS: Range = Range {
-    low: 1,
-    high: LONGEST_FRACTION as i64,
-};
-
-/// The most moments of a block.
-pub const LONGEST_BLOCK: u16 = 4096;
+pub const FRACTIONS: Range = Range { low: 1, high: 40 };
 
 /// Counts of moments of a block.
-pub const LENGTHS: Range = Range {
-    low: 1,
-    high: LONGEST_BLOCK as i64,
-};
+pub const LENGTHS: Range = Range { low: 1, high: 4096 };
 
 /// The most entries of a list of whole numbers.
 pub const LIST_ENTRIES: usize = 8;

@@ -2,8 +2,6 @@
 
 ghost use Rattle.fx_keys.specs.Laws.{FirstUnknown};
 ghost use Rattle.std.specs.Prelude.{◌≡◌, ◌++◌, option_map};
-ghost use Rattle.std.specs.List.{list_any};
-ghost use Rattle.std.specs.Str.{bytes_eq};
 ghost use Rattle.toml.specs.Data.{get_member};
 ghost use Rattle.toml.specs.View.{view, table_view};
 ghost use Rattle.fx_math.specs.Answers.{Gives};
@@ -55,12 +53,7 @@ pub fn needed(table: &Table, key: Key) -> Result<&Value, FilterFault>
 fn is_among(text: &str, keys: &[Key]) -> bool
     ensures { result ≡ is_known keys.now text.now }
 {
-    for key in keys {
-        if key.own_name() == text {
-            return true;
-        }
-    }
-    false
+    keys.iter().any(|key| key.own_name() == text)
 }
 
 // Whether a text is one of these keys, or one of those.

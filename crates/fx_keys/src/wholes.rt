@@ -62,7 +62,8 @@ fn ranged(number: i64, key: Key, range: Range) -> Result<i64, FilterFault>
     }
 }
 
-/// The same for a number of this range: else `Limit` with the nearer end.
+/// The whole number at a key, of this range, with this default: the faults of `integer_or`, and `Limit` with the nearer
+/// end for a number out of range.
 pub fn whole_or(
     table: &Table,
     key: Key,
@@ -76,7 +77,7 @@ pub fn whole_or(
     ranged(number, key, range)
 }
 
-/// The whole number at a key, with the key's range and default.
+/// The whole number at a key, with the key's own range and default; its faults are those of `whole_or`.
 pub fn whole_of(table: &Table, key: Key) -> Result<i64, FilterFault>
     ensures gives { result ≡ whole_in key (table_view table.now) }
     ensures within { IfOk result (IsWithin (range_of key)) }
@@ -93,7 +94,7 @@ fn natural(number: i64) -> u16
     number.unsigned_abs() as u16
 }
 
-/// The same for a key whose numbers are natural.
+/// The whole number at a key whose range has natural numbers alone, as by `whole_of`.
 pub fn natural_of(table: &Table, key: Key) -> Result<u16, FilterFault>
     requires { IsNatural (range_of key) }
     ensures gives { result ≡ natural_in key (table_view table.now) }

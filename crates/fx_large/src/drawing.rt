@@ -1,6 +1,6 @@
 //! Numbers that are drawn one after another.
 
-ghost use Rattle.std.specs.Prelude.{◌≡◌, ◌<◌, ◌^◌};
+ghost use Rattle.std.specs.Prelude.{◌≡◌, ◌<◌};
 ghost use Rattle.fx_large.specs.Draws.{drawn, next_state};
 
 /// Draws numbers of 16 bits, one after another: a linear congruential generator modulo 2^32, of which each draw takes a

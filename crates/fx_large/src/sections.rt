@@ -1,8 +1,8 @@
 //! Sections and samples that are drawn.
 
-ghost use Rattle.std.specs.Prelude.{◌≡◌, IfOk, OnErr, OnOk, pos, ◌<◌, ◌≤◌, unsigned_abs};
+ghost use Rattle.std.specs.Prelude.{◌≡◌, IfOk, OnErr, OnOk, ◌<◌, ◌≤◌, unsigned_abs};
 ghost use Rattle.fx_files.specs.Plan.{SectionsFit};
-ghost use Rattle.fx_large.specs.Draws.{draw, next_state, state_after};
+ghost use Rattle.fx_large.specs.Draws.{draw, state_after};
 ghost use Rattle.fx_large.specs.Sections.{
   centred,
   denominator_of,

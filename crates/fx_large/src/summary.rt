@@ -1,6 +1,6 @@
 //! What is told of many words.
 
-ghost use Rattle.std.specs.Prelude.{◌≡◌, ◌+ℤ◌, ◌≤◌, ◌*◌, ◌^◌, unsigned_abs, int_lt, if◌then◌else◌};
+ghost use Rattle.std.specs.Prelude.{◌≡◌, ◌+ℤ◌, ◌≤◌, ◌^◌, unsigned_abs, int_lt, if◌then◌else◌};
 
 /// The least, the greatest and the sum of words.
 #[derive(Clone, Copy, Debug, PartialEq, Eq)]

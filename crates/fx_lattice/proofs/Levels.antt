@@ -16,11 +16,12 @@ use Rattle.fx_nums.specs.Interval.{Interval, point}
 use Rattle.fx_nums.specs.declared.fraction.Den.{Den}
 use Rattle.fx_nums.specs.declared.fraction.Den.TheVariants.{Two, Ten}
 use Rattle.fx_eqs.specs.declared.limits.TheConstants.{REFLECTIONS}
+use Rattle.fx_sif.specs.Entries.{coefficient}
 use Rattle.fx_lattice.specs.Exact.{Enclosures, EnclosesExact, EnclosesLattice, EnclosesOrder, MeetsStepDown}
 use Rattle.fx_lattice.specs.Exact.{OrdersEnclose, below, one_less_square, orders_down}
 use Rattle.fx_lattice.specs.Lattice.{Lattice, LatticeFits, at, reflection, tap}
 use Rattle.fx_lattice.specs.Operations.{is_below_one, less_product, one_point, quotient}
-use Rattle.fx_lattice.specs.StepDown.{behind, coefficient, down, enclosed, enclosures, gathered, greater_order}
+use Rattle.fx_lattice.specs.StepDown.{behind, down, enclosed, enclosures, gathered, greater_order}
 use Rattle.fx_lattice.specs.StepDown.{listed, lower_a, lower_b, lower_denominator, lower_numerator, step_down}
 use Rattle.fx_lattice.specs.StepDown.{with_rung}
 use Rattle.fx_lattice.specs.declared.refusal.Step.{Step}

@@ -4,8 +4,9 @@ use Rattle.fx_math.specs.Ratio.{difference_of, product_of, Ratio, SameValue, who
 use Rattle.fx_nums.specs.Enclosing.{Encloses}
 use Rattle.fx_nums.specs.Fraction.{Fraction, value_of}
 use Rattle.fx_nums.specs.Interval.{Interval}
+use Rattle.fx_sif.specs.Entries.{coefficient}
 use Rattle.fx_lattice.specs.Lattice.{Lattice, at, reflection, tap}
-use Rattle.fx_lattice.specs.StepDown.{behind, coefficient, enclosures, greater_order, lower_denominator}
+use Rattle.fx_lattice.specs.StepDown.{behind, enclosures, greater_order, lower_denominator}
 use Rattle.fx_lattice.specs.StepDown.{lower_numerator}
 
 -- 1 - k^2

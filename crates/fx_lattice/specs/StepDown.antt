@@ -1,10 +1,11 @@
 -- Step-down over intervals: from numerator b and denominator a, whose first coefficient is 1, to a lattice
 -- with the same transfer function. Of order i, a has a_1 to a_i behind the leading 1, and b has b_0 to b_i.
 use Rattle.std.specs.Prelude.{ℕ, zero, suc, ◌+◌, ◌-◌, max, Bool, true, false, List, [], ◌∷◌, ◌++◌, length}
-use Rattle.std.specs.Prelude.{slice_index_or, Option, Some, option_and_then, Result, Ok}
+use Rattle.std.specs.Prelude.{Option, Some, option_and_then, Result, Ok}
 use Rattle.fx_math.specs.Faults.{◌>>=◌, or_fault, unless}
-use Rattle.fx_nums.specs.Fraction.{Fraction, den_value, zero_fraction}
+use Rattle.fx_nums.specs.Fraction.{Fraction, den_value}
 use Rattle.fx_nums.specs.Interval.{Interval, enclosure}
+use Rattle.fx_sif.specs.Entries.{coefficient}
 use Rattle.fx_lattice.specs.Lattice.{Lattice, at}
 use Rattle.fx_lattice.specs.Operations.{is_below_one, less_product, one_point, quotient}
 use Rattle.fx_lattice.specs.declared.refusal.Step.{Step}
@@ -65,10 +66,6 @@ down (suc m) a b =
     Ok (with_rung (behind a i) (at b i) l)
 
 -- ---- a transfer function
-
--- coefficient j; 0 where there is none
-abbrev pub coefficient : List Fraction → ℕ → Fraction
-coefficient cs j = slice_index_or cs j zero_fraction
 
 abbrev pub enclosed : Fraction → Interval
 enclosed c = enclosure c.num (den_value c.den)

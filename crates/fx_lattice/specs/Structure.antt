@@ -5,7 +5,7 @@ use Rattle.std.specs.Prelude.{ℕ, zero, suc, ◌+◌, ◌-◌, ◌*◌, List, [
 use Rattle.fx_math.specs.Sums.{joined}
 use Rattle.fx_nums.specs.Fraction.{Fraction, minus, one_fraction}
 use Rattle.fx_sif.specs.Entries.{across, coefficient, entry}
-use Rattle.fx_sif.specs.Implicit.{Implicit}
+use Rattle.fx_sif.specs.Implicit.{Implicit, single}
 use Rattle.fx_sif.specs.declared.parts.Block.TheVariants.{J, K, L, M, N, S}
 use Rattle.fx_sif.specs.declared.parts.Entry.{Entry}
 
@@ -49,4 +49,4 @@ ladder_entries k v =
 abbrev pub ladder_form : List Fraction → List Fraction → Implicit
 ladder_form k v =
     let n = length k in
-    record { sizes = record { t = 2 * n; x = n; u = 1; y = 1 }; entries = ladder_entries k v }
+    record { sizes = single (2 * n) n; entries = ladder_entries k v }

@@ -5,9 +5,9 @@ ghost use Rattle.fx_math.specs.Answers.{Gives};
 ghost use Rattle.fx_lattice.specs.Exact.{EnclosesExact};
 ghost use Rattle.fx_lattice.specs.Lattice.{at};
 ghost use Rattle.fx_lattice.specs.Operations.{less_product, one_point};
+ghost use Rattle.fx_sif.specs.Entries.{coefficient};
 ghost use Rattle.fx_lattice.specs.StepDown.{
   behind,
-  coefficient,
   down,
   enclosed,
   enclosures,
@@ -25,16 +25,14 @@ use crate::refusal::Step;
 use crate::rungs::Ladder;
 use fx_eqs::REFLECTIONS;
 use fx_nums::Frac;
+use fx_sif::coefficient;
 use std::alloc::{AllocError, Global};
 
 // Coefficient `j` of a list, enclosed; 0 where it has none.
-fn coefficient(coefficients: &[Frac], j: usize) -> Operand
+fn enclosed(coefficients: &[Frac], j: usize) -> Operand
     ensures { result ≡ enclosed (coefficient coefficients.now j) }
 {
-    if j < coefficients.len() {
-        return Operand::enclosing(coefficients[j]);
-    }
-    Operand::enclosing(Frac::zero())
+    Operand::enclosing(coefficient(coefficients, j))
 }
 
 // So many coefficients from this one on, enclosed.
@@ -49,7 +47,7 @@ fn enclosures(
 {
     let mut intervals = Vec::new(alloc);
     for j in 0..count {
-        intervals.push(coefficient(coefficients, j + first))?;
+        intervals.push(enclosed(coefficients, j + first))?;
     }
     Ok(intervals)
 }

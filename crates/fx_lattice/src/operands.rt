@@ -1,13 +1,13 @@
 //! Intervals that products and quotients take.
 
-ghost use Rattle.std.specs.Prelude.{◌≡◌, ◌<◌, ◌≤◌, ◌^◌, cond, pos, Some, None};
+ghost use Rattle.std.specs.Prelude.{◌≡◌, ◌<◌, cond, pos, Some, None};
 ghost use Rattle.fx_nums.specs.Arithmetic.{times};
 ghost use Rattle.fx_nums.specs.Fraction.{den_value};
 ghost use Rattle.fx_nums.specs.Interval.{IntervalFits, enclosure, opposite, plus, point};
 ghost use Rattle.fx_lattice.specs.Lattice.{IsBelowOne};
 ghost use Rattle.fx_lattice.specs.Operations.{in_range, is_below_one, less_product, one_point, quotient};
 
-use fx_nums::{Frac, Iv, OPERAND_BITS};
+use fx_nums::{Frac, Iv, OPERAND_BITS, SCALE_BITS};
 use std::marker::Model;
 
 /// An interval with ends below 2^88 in magnitude.
@@ -109,7 +109,7 @@ impl Operand {
 }
 
 /// The number 1 in units of 2^-64.
-const ONE: i128 = 1 << 64;
+const ONE: i128 = 1 << SCALE_BITS;
 
 /// The number 1.
 pub fn one() -> Operand

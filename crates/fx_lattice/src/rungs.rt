@@ -1,4 +1,4 @@
-ghost use Rattle.std.specs.Prelude.{◌≡◌, ◌≤◌, ◌<◌, ◌+◌, ◌-◌, ◌*◌, ◌/◌, ◌^◌, length, pos, unsigned_abs};
+ghost use Rattle.std.specs.Prelude.{◌≡◌, ◌≤◌, ◌<◌, ◌-◌, ◌*◌, ◌/◌, ◌^◌, length, pos, unsigned_abs};
 ghost use Rattle.fx_nums.specs.Fraction.{FractionFits};
 ghost use Rattle.fx_nums.specs.declared.fraction.Den.TheVariants.{Two};
 ghost use Rattle.fx_nums.specs.Interval.{IntervalFits};

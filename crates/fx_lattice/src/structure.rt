@@ -1,6 +1,6 @@
 //! The lattice structure as a filter in implicit form.
 
-ghost use Rattle.std.specs.Prelude.{◌≡◌, ◌≤◌, ◌<◌, ◌+◌, ◌*◌, ◌++◌, length, IfOk, OnOk};
+ghost use Rattle.std.specs.Prelude.{◌≡◌, ◌≤◌, ◌<◌, ◌+◌, ◌++◌, length, IfOk, OnOk};
 ghost use Rattle.fx_math.specs.Sums.{joined};
 ghost use Rattle.fx_eqs.specs.Textbook.{lattice_equations};
 ghost use Rattle.fx_sif.specs.SameOutputs.{HasOutputs};
@@ -85,19 +85,6 @@ fn output_row(entries: &mut Vec<Entry>, order: usize, v: &[Frac]) -> Result<(), 
     add_across(entries, Block::L, 0, order - 1, v)
 }
 
-// One input and one output, two intermediate variables and a state for each reflection.
-fn sizes(order: usize) -> Sizes
-    requires { order ≤ REFLECTIONS }
-    ensures { result ≡ record { t = 2 * order; x = order; u = 1; y = 1 } }
-{
-    Sizes {
-        t: (2 * order) as u8,
-        x: order as u8,
-        u: 1,
-        y: 1,
-    }
-}
-
 /// The lattice structure of up to `REFLECTIONS` reflection coefficients `k`, from the first on, and one tap
 /// `v` more. Its intermediate variables are what goes forward from the input to the first reflection and what
 /// comes back, and its states are what came back at the moment before. Its error is want of memory.
@@ -114,5 +101,5 @@ pub fn ladder_sif(alloc: Global, k: &[Frac], v: &[Frac]) -> Result<Sif, AllocErr
     output_row(&mut entries, k.len(), v)?;
     ladder_is_never_refused(k, v);
     ladder_keeps_the_outputs(k, v);
-    Sif::build_unrefused(alloc, sizes(k.len()), &entries)
+    Sif::build_unrefused(alloc, Sizes::single(2 * k.len(), k.len()), &entries)
 }

@@ -1,5 +1,3 @@
-ghost use Rattle.std.specs.Prelude.{◌≡◌, ◌≤◌, length, IfOk};
-
 use crate::{Ladder, Step, ladder_sif, step_down};
 use fx_net::Net;
 use fx_nums::{Den, Frac, Iv};

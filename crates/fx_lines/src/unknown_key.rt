@@ -1,6 +1,6 @@
 // A key that no line names, as a line shows it.
 
-ghost use Rattle.std.specs.Prelude.{◌≡◌, ◌++◌, ◌<◌, ◌∷◌, [], true, OnOk};
+ghost use Rattle.std.specs.Prelude.{◌≡◌, ◌++◌, ◌<◌, true, OnOk};
 ghost use Rattle.std.specs.Fmt.{digit_glyph};
 ghost use Rattle.fx_lines.specs.UnknownKey.{escaped, is_control, shown_byte, shown_key};
 

@@ -1,7 +1,6 @@
 //! How far the bounds of a candidate's rows may go.
 
 ghost use Rattle.std.specs.Prelude.{◌≡◌, ℕ, ◌-◌, ◌^◌, ◌<◌, ◌≤◌, length, min, pos};
-ghost use Rattle.fx_files.specs.Fits.{InputFits};
 ghost use Rattle.fx_math.specs.Words.{WidthFits};
 ghost use Rattle.fx_block.specs.Candidate.{candidate_count, cap_of, most_width};
 ghost use Rattle.fx_code.specs.NetRows.{bare_at};

@@ -1,9 +1,9 @@
 //! Whether a candidate's rows pass for a length.
 
-ghost use Rattle.std.specs.Prelude.{◌≡◌, ℕ, ◌-◌, ◌^◌, ◌<◌, ◌≤◌, length, replicate, None};
+ghost use Rattle.std.specs.Prelude.{◌≡◌, ℕ, ◌-◌, ◌<◌, ◌≤◌, length, replicate, None};
 ghost use Rattle.fx_sweep.specs.Swept.{whole_in};
 ghost use Rattle.fx_totals.specs.Filled.{Filled};
-ghost use Rattle.fx_totals.specs.Kept.{AreBounds, IsUpTo, bound_in};
+ghost use Rattle.fx_totals.specs.Kept.{AreBounds, IsUpTo, bound_in, greatest_total};
 ghost use Rattle.fx_block.specs.Candidate.{candidate_count, candidate_range};
 ghost use Rattle.fx_make.specs.Designs.{AreRowsOf};
 ghost use Rattle.fx_make.specs.Lengths.{TellsRaises, TellsTrial, kept_above, kept_pairs, least_fail, raises_of};
@@ -70,7 +70,7 @@ fn pair_total<const N: usize>(
     requires bounds { AreBounds x.now }
     requires output { o < length f.now.outputs }
     ensures value { result ≡ kept_pairs f.now d.now.rows totals.now (bound_in x.now) o }
-    ensures fits { IsUpTo (2 ^ 126 - 1) result }
+    ensures fits { IsUpTo greatest_total result }
 {
     totals.total(row_count(f, d) + o, &input_bounds(f), x)
 }

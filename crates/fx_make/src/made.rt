@@ -1,7 +1,6 @@
 //! The program and the certificate of a candidate that passes.
 
 ghost use Rattle.std.specs.Prelude.{◌≡◌, ◌<◌, ◌≤◌, ℕ, length, map, All, IfOk};
-ghost use Rattle.fx_math.specs.Words.{WidthFits};
 ghost use Rattle.fx_code.specs.Code.{IsWhole};
 ghost use Rattle.fx_sweep.specs.Swept.{whole_in};
 ghost use Rattle.fx_totals.specs.Kept.{AreBounds, bound_in};

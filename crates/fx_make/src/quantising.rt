@@ -1,16 +1,9 @@
 //! The integer rows of a form for a filter.
 
-ghost use Rattle.std.specs.Prelude.{◌≡◌, ◌≤◌, length, IfOk};
+ghost use Rattle.std.specs.Prelude.{◌≡◌, length, IfOk};
 ghost use Rattle.fx_math.specs.Answers.{Gives};
 ghost use Rattle.fx_block.specs.Formats.{output_at};
-ghost use Rattle.fx_quant.specs.Quantised.{
-  FormatsFit,
-  FractionFits,
-  IsGuard,
-  equal_guards,
-  is_memory,
-  quantised,
-};
+ghost use Rattle.fx_quant.specs.Quantised.{FractionFits, IsGuard, equal_guards, is_memory, quantised};
 ghost use Rattle.fx_sif.specs.Implicit.{rows};
 ghost use Rattle.fx_make.specs.Candidates.{formats_of};
 ghost use Rattle.fx_make.specs.Designs.{AreRowsOf};
@@ -51,7 +44,7 @@ fn formats(f: &Filter) -> Formats
 /// The integer rows of the form of a filter's structure: with so many guard bits of each row that is not put out, 0 to
 /// 16, and with coefficients of so many bits behind the point, 1 to 40.
 ///
-/// Its error is the first fault, row by row, and `NoMemory` only where there is none.
+/// Its error is the first fault, row by row; `NoMemory` may come at any time.
 pub fn quantised_design(
     alloc: Global,
     f: &Filter,

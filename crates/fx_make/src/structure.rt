@@ -1,13 +1,13 @@
 //! The structure that a filter asks for.
 
-ghost use Rattle.std.specs.Prelude.{◌≡◌, ◌≤◌, ◌+◌, ◌*◌, [], ◌∷◌, length, IfOk};
+ghost use Rattle.std.specs.Prelude.{◌≡◌, ◌+◌, length, IfOk};
 ghost use Rattle.fx_math.specs.Answers.{Gives};
 ghost use Rattle.fx_eqs.specs.Textbook.{lattice_equations, sos_equations, tf_equations};
 ghost use Rattle.fx_files.specs.Coefficients as coefficients;
 ghost use Rattle.fx_files.specs.Coefficients.{form_of};
 ghost use Rattle.fx_files.specs.Fits.{CascadeFits, LadderFits, TransferFits};
 ghost use Rattle.fx_files.specs.declared.forms.Form.TheVariants as form;
-ghost use Rattle.fx_lattice.specs.StepDown.{greater_order, step_down};
+ghost use Rattle.fx_lattice.specs.StepDown.{step_down};
 ghost use Rattle.fx_sif.specs.SameOutputs.{HasOutputs};
 ghost use Rattle.fx_space.specs.Matrices.{SpaceFits};
 ghost use Rattle.fx_space.specs.Space.{space_equations};

@@ -86,6 +86,12 @@ bare_row ks = record { shift = shift_of ks; terms = map (code_term (shift_of ks)
 abbrev pub IsSmall : Scaled → Type 0
 IsSmall k = unsigned_abs k.odd < 2 ^ ROUNDED_BITS
 
+-- added to a list: these terms, small ones to small ones, at most so many
+pub record Adds (before after added : List Scaled) (most : ℕ) : Type 0 where
+  pub value : after ≡ before ++ added
+  pub small : All IsSmall before → All IsSmall after
+  pub few : length after ≤ length before + most
+
 -- the right shift or some left shift is too long
 abbrev pub shifts_far : ℕ → ℕ → List Scaled → Bool
 shifts_far accumulator shift ks = nat_lt LONGEST_SHIFT shift || nat_le accumulator shift
@@ -100,20 +106,15 @@ abbrev pub is_wide : ℕ → Scaled → Bool
 is_wide shift k = nat_le (2 ^ COEFFICIENT_BITS) (unsigned_abs (product_of shift k))
     || nat_le (2 ^ (PRODUCT_BITS + shift)) (unsigned_abs (product_of shift k))
 
--- added to a list: these terms, small ones to small ones, at most so many
-pub record Adds (before after added : List Scaled) (most : ℕ) : Type 0 where
-  pub value : after ≡ before ++ added
-  pub small : All IsSmall before → All IsSmall after
-  pub few : length after ≤ length before + most
-
--- neither is so
+-- the left shift is not too long
 abbrev pub StaysNear : ℕ → Scaled → Type 0
 StaysNear shift k = left_of shift k ≤ LONGEST_SHIFT
 
+-- the product is not too large
 abbrev pub IsNarrow : ℕ → Scaled → Type 0
 IsNarrow shift k = is_wide shift k ≡ false
 
--- the first such term, the first of these having this place in its row
+-- the first term that is too large; the first of these has this place in its row
 abbrev pub wide_fault : ℕ → ℕ → ℕ → List Scaled → Option QuantFault
 wide_fault i shift place [] = None
 wide_fault i shift place (k ∷ ks) =

@@ -21,7 +21,7 @@ ghost use Rattle.fx_quant.specs.Rows.{kept_terms, quantised_row};
 
 use crate::design::{Design, DesignRow};
 use crate::fault::QuantFault;
-use crate::formats::{Formats, GREATEST_FRACTION, LARGEST_GUARD};
+use crate::formats::{Formats, GREATEST_FRACTION};
 use crate::row;
 use crate::scaled::Places;
 use fx_code::CODE_TERMS;
@@ -53,7 +53,7 @@ fn add_guarded(lows: &mut Vec<i8>, formats: &Formats, guards: &[u8]) -> Result<(
 
 // Adds the low positions of the outputs.
 fn add_outputs(lows: &mut Vec<i8>, formats: &Formats, outputs: usize) -> Result<(), AllocError>
-    requires { outputs ≤ 4 }
+    requires { outputs ≤ PORTS }
     ensures { OnOk result (lows.new.items ≡ lows.old.items ++ take outputs formats.now.lows) }
 {
     for o in 0..outputs {
@@ -134,8 +134,8 @@ fn design_rows(
 /// which the row's low position is below that of the inputs. Coefficients are rounded to `fraction` places behind the
 /// point.
 ///
-/// Its error is the first fault, row by row, and `NoMemory` only where there is none. Where the form has at most
-/// `CODE_TERMS` entries, the design fits a program.
+/// Its error is the first fault, row by row; `NoMemory` may come at any time. Where the form has at most `CODE_TERMS`
+/// entries, the design fits a program.
 #[tactic(auto, using(crate::proofs::Faults::quantised_is, crate::proofs::Faults::quantised_fails))]
 pub fn quantise_rows(
     alloc: Global,
@@ -176,7 +176,7 @@ pub fn quantise_rows(
 /// The integer rows of a form, with the same guard for each intermediate variable and each state, as by
 /// `quantise_rows`.
 ///
-/// Its error is the first fault, row by row, and `NoMemory` only where there is none.
+/// Its error is the first fault, row by row; `NoMemory` may come at any time.
 pub fn quantise(
     alloc: Global,
     sif: &Sif,

@@ -1,5 +1,7 @@
 ghost use Rattle.std.specs.Prelude.{◌≡◌, pos, negsuc};
 
+use fx_eqs::PORTS;
+
 /// The low positions of inputs and outputs, and the bits of the accumulators. The last place of a word with the low
 /// position l counts 2^l.
 #[derive(Clone, Copy, Debug, PartialEq, Eq)]
@@ -8,7 +10,7 @@ pub struct Formats {
     pub input_low: i8,
     /// That of each output: `LEAST_LOW` to `GREATEST_LOW`, at most `LOWS_APART` away from that of the inputs. Those
     /// past the outputs are not read.
-    pub lows: [i8; 4],
+    pub lows: [i8; PORTS],
     /// 16, 32 or 64.
     pub accumulator: u8,
 }

@@ -123,7 +123,6 @@ impl Design {
     /// no fewer than those that the design was made for.
     ///
     /// A design that fits is never refused: its error is want of memory.
-
     pub fn program(
         &self,
         alloc: Global,

@@ -1,21 +1,6 @@
 //! One row: its terms, its right shift and its first fault.
 
-ghost use Rattle.std.specs.Prelude.{
-  ◌≡◌,
-  ◌<◌,
-  ◌≤◌,
-  ◌^◌,
-  ◌+◌,
-  ◌++◌,
-  length,
-  map,
-  nat_lt,
-  unsigned_abs,
-  false,
-  OnOk,
-  IfOk,
-  All,
-};
+ghost use Rattle.std.specs.Prelude.{◌≡◌, ◌<◌, ◌≤◌, ◌^◌, length, map, nat_lt, OnOk, IfOk, All};
 ghost use Rattle.std.specs.List.{list_any};
 ghost use Rattle.fx_math.specs.Answers.{Gives};
 ghost use Rattle.fx_net.specs.Links.{coefficients, source_count};
@@ -206,7 +191,7 @@ fn code_terms(alloc: Global, shift: u16, terms: &[Scaled]) -> Result<Vec<CodeTer
     Ok(list)
 }
 
-// The row of these terms. Its error is the first fault, and want of memory only where there is none.
+// The row of these terms. Its error is the first fault, and want of memory may come at any time.
 #[tactic(auto, using(crate::proofs::Faults::all_narrow, crate::proofs::Faults::fault_told))]
 pub(crate) fn quantised_row(
     alloc: Global,

@@ -12,7 +12,6 @@ ghost use Rattle.std.specs.Prelude.{
   ◌+ℤ◌,
   ◌-ℤ◌,
   ◌≢◌,
-  length,
   unsigned_abs,
   pos,
   slice_index_or,

@@ -1,8 +1,8 @@
 //! The widths of the rows of a design.
 
-ghost use Rattle.std.specs.Prelude.{◌≡◌, ◌<◌, ◌≤◌, length, slice_index_or, pos, All, IfOk};
+ghost use Rattle.std.specs.Prelude.{◌<◌, ◌≤◌, length, All, IfOk};
 ghost use Rattle.fx_math.specs.Words.{WidthFits};
-ghost use Rattle.fx_msb.specs.Widths.{IsBound, IsLeastWidth};
+ghost use Rattle.fx_msb.specs.Widths.{IsBound};
 ghost use Rattle.fx_quant.specs.Widths.{AreRowWidths, HasLeastWidths};
 
 use crate::design::Design;

@@ -7,6 +7,10 @@ use Rattle.fx_sif.specs.declared.parts.Block.TheVariants.{J}
 use Rattle.fx_sif.specs.declared.parts.Entry.{Entry}
 use Rattle.fx_sif.specs.declared.parts.Sizes.{Sizes}
 
+-- one input and one output, with so many intermediate variables and states
+abbrev pub single : ℕ → ℕ → Sizes
+single t x = record { t = t; x = x; u = 1; y = 1 }
+
 -- the counts, and the entries that were given, in their order
 pub record Implicit : Type 0 where
   pub sizes : Sizes

@@ -79,17 +79,12 @@ fn breaks_unit_lower(entry: &Entry) -> bool
 fn stands_twice(earlier: &[Entry], entry: &Entry) -> bool
     ensures { result ≡ list_any (same_place entry.now) earlier.now }
 {
-    for other in earlier {
-        if is_at(
-            entry.block,
-            usize::from(entry.i),
-            usize::from(entry.j),
-            other,
-        ) {
-            return true;
-        }
-    }
-    false
+    earlier.iter().any(|other| is_at(
+        entry.block,
+        usize::from(entry.i),
+        usize::from(entry.j),
+        other,
+    ))
 }
 
 // The fault of one entry behind the earlier ones.

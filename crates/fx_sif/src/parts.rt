@@ -1,3 +1,6 @@
+ghost use Rattle.std.specs.Prelude.{◌≡◌, ◌<◌, ◌^◌};
+ghost use Rattle.fx_sif.specs.Implicit.{single};
+
 use fx_nums::Frac;
 
 /// The nine blocks of `J t' = M x + N u`, `x' = K t' + P x + Q u`, `y = L t' + R x + S u`. Here u are the
@@ -42,12 +45,27 @@ pub struct Entry {
 /// `FORM_ROWS`.
 #[derive(Clone, Copy, Debug, PartialEq, Eq)]
 pub struct Sizes {
-    /// Intermediate variables: 0 to 39.
+    /// Intermediate variables: 0 to `FORM_ROWS` - 1.
     pub t: u8,
-    /// States: 0 to 39.
+    /// States: 0 to `FORM_ROWS` - 1.
     pub x: u8,
     /// Inputs: 1 to `PORTS` of fx_eqs.
     pub u: u8,
     /// Outputs: 1 to `PORTS` of fx_eqs.
     pub y: u8,
+}
+
+impl Sizes {
+    /// One input and one output, with so many intermediate variables and states.
+    pub fn single(t: usize, x: usize) -> Sizes
+        requires { (t < 2 ^ 8) × (x < 2 ^ 8) }
+        ensures { result ≡ single t x }
+    {
+        Sizes {
+            t: t as u8,
+            x: x as u8,
+            u: 1,
+            y: 1,
+        }
+    }
 }

@@ -1,6 +1,6 @@
 //! How the weights of rows are handed to what they read.
 
-ghost use Rattle.std.specs.Prelude.{◌≡◌, ◌≢◌, ℕ, ◌+◌, ◌*◌, ◌^◌, ◌<◌, ◌≤◌, length, pos, unsigned_abs};
+ghost use Rattle.std.specs.Prelude.{◌≡◌, ◌≢◌, ℕ, ◌+◌, ◌*◌, ◌<◌, ◌≤◌, length, unsigned_abs};
 ghost use Rattle.fx_cross.specs.Table.{entry_at};
 ghost use Rattle.fx_nums.specs.Arithmetic.{multiple};
 ghost use Rattle.fx_nums.specs.Interval.{IntervalFits, plus, point};
@@ -97,7 +97,7 @@ pub fn add_row(table: &Cross, i: usize, row: Span, at: &mut [Span], ratios: &mut
 // Sets intervals to what the rows of a table take with their weights, the low ends of their intervals.
 pub fn hand_out(table: &Cross, weights: &[Span], at: &mut [Span], ratios: &mut Ratios)
     requires rows { length weights.now ≡ table.now.rows }
-    requires few { length weights.now ≤ 64 }
+    requires few { length weights.now ≤ LARGEST_NET }
     requires columns { table.now.columns ≤ length at.old }
     requires weights { (i : ℕ) → unsigned_abs (interval_in weights.now i).lo ≤ greatest }
     ensures count { length at.new ≡ length at.old }

@@ -1,6 +1,6 @@
 //! How far a sweep goes.
 
-ghost use Rattle.std.specs.Prelude.{◌≡◌, pos, neg_ℤ};
+ghost use Rattle.std.specs.Prelude.{◌≡◌, pos};
 
 /// The most moments of a sweep.
 pub const GREATEST_LENGTH: u16 = 4096;

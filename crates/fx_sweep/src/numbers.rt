@@ -14,7 +14,6 @@ ghost use Rattle.std.specs.Prelude.{
   ℤ,
   pos,
   ◌+ℤ◌,
-  ◌*ℤ◌,
   ◌≤ℤ◌,
   unsigned_abs,
   OnOk,
@@ -33,7 +32,6 @@ ghost use Rattle.fx_sweep.specs.Steps.{
   AreNear,
   GainsFit,
   IsMoved,
-  IsNarrow,
   IsRepeatedOn,
   AreLong,
   IsRowAdded,
@@ -67,7 +65,7 @@ use crate::target::{Place, RangeAt, Target};
 use fx_cross::Cross;
 use fx_eqs::PORTS;
 use fx_net::{LARGEST_NET, Net, Which, nets_fit};
-use fx_nums::{OPERAND_BITS, SCALE_BITS, SUMMAND_BITS};
+use fx_nums::{INTERVAL_BITS, OPERAND_BITS, SCALE_BITS, SUMMAND_BITS};
 use fx_ratio::{Ratios, Span};
 use std::alloc::{AllocError, Global};
 use std::mem;
@@ -95,7 +93,7 @@ pub struct Numbers {
 #[inline(always)]
 pub fn magnitude_of(v: Span) -> u128
     ensures value { result ≡ magnitude v }
-    ensures fits { result < 2 ^ 120 }
+    ensures fits { result < 2 ^ INTERVAL_BITS }
 {
     v.lo().unsigned_abs().max(v.hi().unsigned_abs())
 }
@@ -122,7 +120,7 @@ fn within(place: Place, number: u128) -> Result<(), RangeAt>
 fn raise(gains: &mut [u128], i: usize, by: u128, place: Place) -> Result<(), RangeAt>
     requires place { i < length gains.old }
     requires fit { GainsFit gains.old }
-    requires by { by < 2 ^ 120 }
+    requires by { by < 2 ^ INTERVAL_BITS }
     ensures count { length gains.new ≡ length gains.old }
     ensures range { range_of result ≡ reached place (gain_in gains.old i + by) }
     ensures here { OnOk result (gain_in gains.new i ≡ gain_in gains.old i + by) }
@@ -159,7 +157,7 @@ fn settle_row(
     ratios: &mut Ratios,
 ) -> Result<(), RangeAt>
     requires row { i < table.now.rows }
-    requires few { i < 64 }
+    requires few { i < LARGEST_NET }
     requires columns { table.now.columns ≤ length weights.old }
     requires weights { i < length weights.old }
     requires widths { i < length widths.old }
@@ -250,7 +248,7 @@ fn add_inputs(inputs: &[Span], gains: &mut [u128]) -> Result<(), RangeAt>
 // Tests the interval that is carried to a row against the limit.
 #[inline(always)]
 fn test_rest(i: usize, carried: Span) -> Result<(), RangeAt>
-    requires { i < 64 }
+    requires { i < LARGEST_NET }
     ensures range { range_of result ≡ reached (Rest i) (magnitude carried) }
     ensures small { OnOk result (magnitude carried ≤ greatest) }
 {
@@ -262,7 +260,7 @@ fn test_rest(i: usize, carried: Span) -> Result<(), RangeAt>
 
 // Answers the first interval that is carried and reaches the limit.
 fn test_rests(carried: &[Span]) -> Result<(), RangeAt>
-    requires few { length carried.now ≤ 64 }
+    requires few { length carried.now ≤ LARGEST_NET }
     ensures range { range_of result
         ≡ first_range (rest_value (interval_in carried.now)) (joined (length carried.now) rest_places) }
     ensures small { OnOk result ((i : ℕ) → magnitude (interval_in carried.now i) ≤ greatest) }
@@ -359,7 +357,7 @@ fn turn<const N: usize>(
     hand_back(net, weights, inputs, input_gains, carried, ratios)
 }
 
-// 64 and a small number.
+// The exponent of 2^shift at the scale of the sweep.
 fn exponent(shift: i8) -> u32
     requires { unsigned_abs shift ≤ unsigned_abs GREATEST_SHIFT }
     ensures value { result ≡ unsigned_abs (pos SCALE_BITS +ℤ shift) }

@@ -2,16 +2,13 @@ ghost use Rattle.std.specs.Prelude.{
   ◌≡◌,
   ℕ,
   ◌+◌,
-  ◌*◌,
   ◌^◌,
   ◌<◌,
   ◌≤◌,
   ℤ,
   pos,
   ◌≤ℤ◌,
-  length,
   IfOk,
-  IfErr,
   OnOk,
   Option,
   Some,
@@ -185,7 +182,7 @@ impl<const N: usize> Sweep<N> {
         self.numbers.row_gains[i] as i128
     }
 
-    /// The width of row `i`, below N, times 2^64: what was cut off its intervals, added up. It is below 2^76.
+    /// The width of row `i`, below N, times 2^64: what was cut off its intervals, added up. It is at most 2^76.
     pub fn width(&self, i: usize) -> i128
         requires { i < N }
         ensures value { result ≡ width_at self.now i }

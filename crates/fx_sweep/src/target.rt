@@ -5,7 +5,7 @@
 pub enum Target {
     /// The value of a row.
     Row(u8),
-    /// The value of one row less `2^shift` times that of another, the shift being -16 to 16.
+    /// The value of one row less `2^shift` times that of another, the shift being at most `GREATEST_SHIFT` in magnitude.
     Pair {
         /// The row that is counted in output steps.
         code: u8,

@@ -62,6 +62,10 @@ AreUpTo most xs = (k : ℕ) → IsUpTo most (whole_in xs k)
 abbrev pub greatest_gain : ℕ
 greatest_gain = 2 ^ OPERAND_BITS - 1
 
+-- the greatest total, and the greatest part of one
+abbrev pub greatest_total : ℕ
+greatest_total = 2 ^ 126 - 1
+
 abbrev pub greatest_sum_of_widths : ℕ
 greatest_sum_of_widths = 2 ^ 76
 

@@ -89,7 +89,7 @@ impl<const N: usize> AtLength<N> {
 
     // Target t met a range in the moment after so many: keeps it, if that many are not all that are wanted.
     pub fn refuse(&mut self, t: usize, at: RangeAt, moments: u16)
-        requires { t < 68 }
+        requires { t < LARGEST_NET + PORTS }
         ensures { IsRefusedOn t at moments self.old self.new }
     {
         if moments < self.wanted() {

@@ -11,7 +11,7 @@ ghost use Rattle.fx_totals.specs.Filled.{AreLeading, length_in, target_in};
 ghost use Rattle.fx_totals.specs.Kept.{AreUpTo, IsUpTo, greatest_gain, greatest_sum_of_widths};
 
 use fx_eqs::PORTS;
-use fx_net::Net;
+use fx_net::{LARGEST_NET, Net};
 use fx_sweep::{GREATEST_LENGTH, RangeAt, Sweep, Target};
 
 // Sweeps a target for so many moments, or answers the first range that is met.
@@ -106,7 +106,7 @@ pub fn length_at(lengths: &[u16], t: usize) -> u16
 
 // How many targets, from the first on, are the rows in order.
 pub fn leading_rows(targets: &[Target]) -> usize
-    requires { length targets.now ≤ 68 }
+    requires { length targets.now ≤ LARGEST_NET + PORTS }
     ensures { AreLeading result targets.now }
 {
     for t in 0..targets.len() {
@@ -120,8 +120,8 @@ pub fn leading_rows(targets: &[Target]) -> usize
 // The place of a number in lines of so many.
 pub fn place_in(line: usize, width: usize, i: usize, lines: usize) -> usize
     requires line { line < lines }
-    requires width { width ≤ 64 }
-    requires lines { lines ≤ 68 }
+    requires width { width ≤ LARGEST_NET }
+    requires lines { lines ≤ LARGEST_NET + PORTS }
     requires i { i < width }
     ensures value { result ≡ line * width + i }
     ensures inside { result < lines * width }
@@ -132,8 +132,8 @@ pub fn place_in(line: usize, width: usize, i: usize, lines: usize) -> usize
 // The place where a line of so many begins.
 pub fn line_at(line: usize, width: usize, lines: usize) -> usize
     requires line { line < lines }
-    requires width { width ≤ 64 }
-    requires lines { lines ≤ 68 }
+    requires width { width ≤ LARGEST_NET }
+    requires lines { lines ≤ LARGEST_NET + PORTS }
     ensures value { result ≡ line * width }
     ensures inside { result + width ≤ lines * width }
 {

@@ -150,7 +150,7 @@ fn refuse_each<const N: usize>(
     moments: u16,
 )
     requires count { count ≤ length parts.old }
-    requires target { t < 68 }
+    requires target { t < LARGEST_NET + PORTS }
     ensures count { length parts.new ≡ length parts.old }
     ensures refused { IsMadeForEach (IsRefusedOn t at moments) count parts.old parts.new }
 {

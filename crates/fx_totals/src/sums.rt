@@ -13,9 +13,10 @@ ghost use Rattle.fx_totals.specs.Kept.{
   greatest_bound,
   greatest_gain,
   greatest_rounding,
+  greatest_total,
 };
 
-use fx_net::{Net, nets_fit};
+use fx_net::{GREATEST_CLASS, LARGEST_NET, Net, nets_fit};
 use fx_sweep::Sweep;
 
 // A number times a bound.
@@ -53,7 +54,7 @@ fn product_at(numbers: &[i128], place: usize, bounds: &[i64], i: usize) -> i128
 #[tactic(auto, using(crate::proofs::Kept::one_more_fits))]
 pub fn products(numbers: &[i128], at: usize, bounds: &[i64]) -> i128
     requires inside { at + length bounds.now ≤ length numbers.now }
-    requires few { length bounds.now ≤ 64 }
+    requires few { length bounds.now ≤ LARGEST_NET }
     requires numbers { AreUpTo greatest_gain numbers.now }
     requires bounds { AreBounds bounds.now }
     ensures value { result ≡ total (length bounds.now) (λ i.
@@ -74,7 +75,7 @@ pub fn sum_of_parts(inputs: i128, rounding: i128, widths: i128, rests: i128) -> 
     requires widths { IsUpTo (2 ^ 113) widths }
     requires rests { IsUpTo (2 ^ 125) rests }
     ensures value { result ≡ inputs +ℤ rounding +ℤ widths +ℤ rests }
-    ensures fits { IsUpTo (2 ^ 126 - 1) result }
+    ensures fits { IsUpTo greatest_total result }
 {
     inputs + rounding + widths + rests
 }
@@ -82,7 +83,7 @@ pub fn sum_of_parts(inputs: i128, rounding: i128, widths: i128, rests: i128) -> 
 // A gain times a class.
 fn halves_of(gain: i128, class: u8) -> i128
     requires gain { IsUpTo greatest_gain gain }
-    requires class { class ≤ 2 }
+    requires class { class ≤ GREATEST_CLASS }
     ensures value { result ≡ gain *ℤ pos class }
     ensures fits { IsUpTo (2 ^ 89) result }
 {

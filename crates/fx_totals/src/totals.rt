@@ -15,9 +15,6 @@ ghost use Rattle.std.specs.Prelude.{
   IfErr,
   OnOk,
   List,
-  Option,
-  Some,
-  None,
   option_map,
 };
 ghost use Rattle.fx_eqs.specs.declared.limits.TheConstants.{PORTS};
@@ -36,7 +33,6 @@ ghost use Rattle.fx_totals.specs.Filled.{
   first_target_range,
   length_in,
   moments_of,
-  range_of_target,
   target_in,
   told_by,
 };
@@ -49,6 +45,7 @@ ghost use Rattle.fx_totals.specs.Kept.{
   greatest_gain,
   greatest_rounding,
   greatest_sum_of_widths,
+  greatest_total,
   kept_gain,
   kept_rest,
   kept_rounding,
@@ -65,7 +62,7 @@ use crate::sums::{products, rounding, sum_of_parts};
 use crate::target_range::TargetRange;
 use fx_eqs::PORTS;
 use fx_net::{LARGEST_NET, Net, nets_fit};
-use fx_sweep::{GREATEST_LENGTH, RangeAt, Sweep, Target};
+use fx_sweep::{GREATEST_LENGTH, Sweep, Target};
 use std::alloc::{AllocError, Global};
 use std::marker::Model;
 
@@ -323,7 +320,7 @@ impl<const N: usize> Totals<N> {
             Filled self.now net targets lengths → result
             ≡ target_total net (start_of (target_in targets t)) (length_in lengths t) (bound_in bounds.now)
             (bound_in x.now) }
-        ensures fits { IsUpTo (2 ^ 126 - 1) result }
+        ensures fits { IsUpTo greatest_total result }
     {
         sum_of_parts(
             self.input_part(t, bounds),
