@@ -1,5 +1,5 @@
 //! The program: makes certified fixed-point code for linear filters, judges it, tells what its errors are made of, runs
-//! it on samples, shows filter files and finds how far their outputs go.
+//! it on samples, shows filter files, finds how far their outputs go, and runs the job of a number.
 #![tactic(auto)]
 
 ghost use Rattle.fx_words.specs.Command.{texts};

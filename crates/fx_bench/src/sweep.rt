@@ -57,8 +57,8 @@ impl fmt::Display for SweepTime {
     }
 }
 
-#[tactic(auto, using(crate::proofs::FirstMet::range_met, crate::proofs::FirstMet::no_range_met))]
 // The gain of input 0 for a row after so many moments of its sweep, or the first range in them.
+#[tactic(auto, using(crate::proofs::FirstMet::range_met, crate::proofs::FirstMet::no_range_met))]
 fn swept_gain<const N: usize>(
     sweep: &mut Sweep<N>,
     net: &Net<N>,

@@ -4,6 +4,7 @@ use crate::jobs::{
     CHECK, GAIN, HALF, HALF_CERT, HALF_CODE, JOBS, Job, MAKE, REPORT, SAMPLES, SHOW, SIMULATE,
 };
 use fx_tool::Status;
+use fx_words::{LONGEST_FILE, LONGEST_SAMPLES};
 use std::alloc::{AllocError, Global};
 use std::test::Fail;
 
@@ -122,11 +123,6 @@ fn cut_files_are_refused(rt: HostRuntime) -> Result<(), Fail> {
     }
     Ok(())
 }
-
-// The most bytes of a filter, of code or of a certificate, and of samples.
-const LONGEST_FILE: usize = 1_048_576;
-
-const LONGEST_SAMPLES: usize = 16_777_216;
 
 // A content with line feeds behind it, up to so many bytes.
 fn padded(alloc: Global, content: &[u8], length: usize) -> Result<Vec<u8>, AllocError> {

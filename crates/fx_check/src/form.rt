@@ -87,7 +87,7 @@ fn test_inputs(f: &Filter, p: &Program) -> Result<(), Refusal>
     Ok(())
 }
 
-// The row of an output.
+/// The row of an output.
 pub fn output_row(p: &Program, o: usize) -> u8
     requires { o < length p.now.outputs }
     ensures value { result ≡ slice_index p.now.outputs o }

@@ -11,14 +11,14 @@ use crate::bounds::RowBounds;
 use crate::fails::LengthFail;
 use fx_block::{Least, LengthWhy};
 use fx_files::Filter;
-use fx_net::Net;
+use fx_net::{LARGEST_NET, Net};
 use fx_sweep::{Sweep, Target};
 use fx_totals::Totals;
 use std::alloc::{AllocError, Global};
 
 // The first rows as targets.
 fn row_targets(alloc: Global, rows: usize) -> Result<Vec<Target>, AllocError>
-    requires { rows ≤ 64 }
+    requires { rows ≤ LARGEST_NET }
     ensures { IfOk result (λ ts. ts.items ≡ row_targets rows) }
 {
     let mut targets = Vec::new(alloc);

@@ -19,14 +19,14 @@ pub struct Peaks {
 }
 
 impl Model for Peaks {
-    ghost use Rattle.std.specs.Prelude.{map};
     ghost use Rattle.fx_gain.specs.Peaks.{PeakValues, PeaksFit};
+    ghost use Rattle.fx_gain.specs.Inside.{values_of};
 
     ghost Value = { PeakValues };
 
-    ghost view = { λ p. record { moments = p.moments; outputs = p.outputs; inputs = p.inputs; intervals = p.intervals; words = map (λ w. w.items) p.words.items } };
+    ghost view = { values_of };
 
-    ghost invariant = { λ p. PeaksFit (record { moments = p.moments; outputs = p.outputs; inputs = p.inputs; intervals = p.intervals; words = map (λ w. w.items) p.words.items }) };
+    ghost invariant = { λ p. PeaksFit (values_of p) };
 }
 
 impl Peaks {

@@ -17,7 +17,7 @@ ghost use Rattle.fx_gain.specs.Weights.{AreWeights};
 
 use crate::ends::sum;
 use fx_eqs::PORTS;
-use fx_net::Net;
+use fx_net::{LARGEST_NET, Net};
 use fx_nums::Iv;
 use fx_sweep::{Sweep, Target};
 use std::alloc::{AllocError, Global};
@@ -53,7 +53,7 @@ pub fn weights_for<const N: usize>(
     moments: u16,
 ) -> Result<Vec<Iv>, AllocError>
     requires row { row < N }
-    requires rows { N ≤ 64 }
+    requires rows { N ≤ LARGEST_NET }
     requires short { moments ≤ GREATEST_LENGTH }
     requires within { first_range_in (net_of net.now) (start_of (Row row)) moments ≡ None }
     ensures { IfOk result (λ ws. AreWeights (net_of net.now) (start_of (Row row)) moments ws.items) }
@@ -74,7 +74,7 @@ pub fn weights_for<const N: usize>(
 fn weight_at(weights: &[Iv], n: usize, j: usize) -> Iv
     requires input { j < PORTS }
     requires moment { (n + 1) * PORTS ≤ length weights.now }
-    requires few { n < 4096 }
+    requires few { n < GREATEST_LENGTH }
     ensures { result ≡ interval_in weights.now (n * PORTS + j) }
 {
     weights[n * PORTS + j]

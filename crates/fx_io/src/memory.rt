@@ -51,8 +51,8 @@ fn at_most(piece: Option<usize>, count: usize) -> usize
     }
 }
 
-/// Files in memory. Every name may be read. The calls that were listed fail, and so does each read
-/// of a name that is not there; all others are done. A read gives all that fits, or at most a piece.
+/// Files in memory. Every name may be read. The calls that were listed answer `Failed`, and so does each read of a name
+/// that is not there; all others are done, but for want of memory. A read gives all that fits, or at most a piece.
 #[derive(Drop)]
 pub struct MemShelf {
     files: FileList,
@@ -191,8 +191,8 @@ impl Shelf for MemShelf {
     }
 }
 
-/// Bytes in memory. The calls that were listed fail; all others are done. A write takes all of its
-/// bytes, or at most a piece.
+/// Bytes in memory. The calls that were listed answer `Failed`; all others are done, but for want of memory. A write
+/// takes all of its bytes, or at most a piece.
 #[derive(Drop)]
 pub struct MemSink {
     bytes: Vec<u8>,

@@ -14,7 +14,7 @@ pub enum StructureFault {
     NotListed(Form, Structure),
     /// A structure without feedback, for a denominator of so many coefficients.
     NotFir(usize),
-    /// A lattice for a transfer function of the first order, which is above the second, the greatest.
+    /// A lattice for a transfer function whose order, the first number, is above the second, the greatest of a lattice.
     Order(usize, usize),
     /// In the step of this number, from the order down to 1, the enclosure of the reflection coefficient does not lie
     /// strictly between -1 and 1.

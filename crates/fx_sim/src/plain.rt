@@ -13,8 +13,8 @@ use crate::moment::is_word;
 use fx_code::Program;
 use fx_math::GREATEST_WIDTH;
 
-// The number of the digits at the front of a text, and their count, where they are as many as a field may have and the
-// text goes on.
+// The number of the digits at the front of a text, and their count, where there are some, no more than a field may have,
+// and the text goes on.
 fn leading_digits(text: &[u8]) -> Option<(u64, usize)>
     ensures some { IfSome result (λ r. 1 ≤ r.1) }
     ensures few { IfSome result (λ r. r.1 ≤ FIELD_DIGITS) }

@@ -78,8 +78,10 @@ fn short_count(number: u64) -> usize
 {
     if number < 100 {
         if number < 10 { 1 } else { 2 }
+    } else if number < 1_000 {
+        3
     } else {
-        if number < 1_000 { 3 } else { 4 }
+        4
     }
 }
 

@@ -43,7 +43,7 @@ use Rattle.fx_tool.proofs.Followed.{content_holds, long_status, told_answer}
 use Rattle.fx_tool.proofs.Placed.{nothing_placed, placings_none}
 use Rattle.fx_tool.specs.Show.{shown}
 use Rattle.fx_tool.specs.Simulate.{outputs, samples_plan}
-use Rattle.fx_tool.specs.Status.{is_spoken, IsBuiltStatus}
+use Rattle.fx_tool.specs.Status.{is_spoken}
 use Rattle.fx_tool.specs.Writing.{GrowsBy}
 use Rattle.fx_tool.proofs.WrittenSoFar.{grows_nothing}
 use Rattle.fx_words.specs.declared.command.Verb.{Verb}
@@ -274,10 +274,6 @@ follows_nothing words shelf = record {
 
 -- ---- what such a run leaves
 
-built : (fault : IoFault) → IsBuiltStatus (read_status fault)
-built io.Failed = refl
-built io.NoMemory = refl
-
 unwritten : (fault : IoFault) → read_status fault ≡ WriteFault → ⊥
 unwritten io.Failed e = cc
 unwritten io.NoMemory e = cc
@@ -300,7 +296,6 @@ leaves_fault words shelf shelf' out result fault e f = record {
   quiet = λ h. refl;
   grows = ([], grows_nothing out.told);
   text_last = inr refl;
-  only = built fault;
   read_fault = counted fault shelf.read_faults shelf'.read_faults result e f.shelf.cause;
   write_fault = λ h. absurd (unwritten fault h);
   kept_reads = counted_so fault shelf.read_faults shelf'.read_faults result e f.shelf.cause;
@@ -409,7 +404,6 @@ leaves_delivered words before now after out out' answer status f d =
         )
         | inr same ↦ inr same
       ];
-      only = d.only;
       read_fault = λ e. absurd (d.spoken e);
       write_fault = λ e. subst (λ n. Rose n after.place_faults ⊎ Rose out.faults out'.faults) f.shelf.place_faults
           (d.write_fault e);

@@ -8,7 +8,7 @@ use Rattle.std.proofs.Common.{IsTrue, true, false}
 use Rattle.fx_tool.specs.Answer.{Answer}
 use Rattle.fx_words.specs.Command.{texts}
 use Rattle.fx_tool.specs.Placing.{DeliversAll}
-use Rattle.fx_tool.specs.Status.{IsBuiltStatus, is_spoken}
+use Rattle.fx_tool.specs.Status.{is_spoken}
 use Rattle.fx_tool.specs.declared.status.Status.{Status}
 use Rattle.fx_tool.specs.declared.status.Status.TheVariants.{ReadFault, WriteFault}
 use Rattle.fx_tool.specs.declared.status.Status.TheVariants.{NoMemory as MemoryStatus}
@@ -132,16 +132,15 @@ places_none names contents outside e =
 -- nothing is put where a placing fails
 nothing_put : (a : Answer) (ps : List (List ℕ × List ℕ)) (before after : Outside) (out : Output)
     (placed : Result (Unit {0}) IoFault) (status : Status) → PlacesAll ps before after placed →
-    (status ≡ a.status → ⊥) → (status ≡ WriteFault) ⊎ (status ≡ MemoryStatus) → IsBuiltStatus status →
+    (status ≡ a.status → ⊥) → (status ≡ WriteFault) ⊎ (status ≡ MemoryStatus) →
     (status ≡ WriteFault → Rose before.place_faults after.place_faults) →
     (after.place_faults ≡ before.place_faults) ⊎ (status ≡ WriteFault) → DeliversAll a ps before after out out status
-nothing_put a ps before after out placed status h other which built fault kept = record {
+nothing_put a ps before after out placed status h other which fault kept = record {
   answer = record { which = inr (inr which); whole = λ e. absurd (other e); prefix = (0, grows_nothing out.told) };
   whole = λ e. absurd (other e);
   files = h.files;
   none = h.none;
   text_last = inr refl;
-  only = built;
   spoken = λ e. unread which e;
   write_fault = λ e. inl (fault e);
   kept_places = kept;
@@ -162,13 +161,13 @@ pub not_delivered : (a : Answer) (ps : List (List ℕ × List ℕ)) (before afte
     (placed : Result (Unit {0}) IoFault) → placed ≡ Err Failed → (WriteFault ≡ a.status → ⊥) →
     PlacesAll ps before after placed → DeliversAll a ps before after out out WriteFault
 not_delivered a ps before after out placed e other h =
-    nothing_put a ps before after out placed WriteFault h other (inl refl) refl (λ _. h.cause.failed e) (inr refl)
+    nothing_put a ps before after out placed WriteFault h other (inl refl) (λ _. h.cause.failed e) (inr refl)
 
 pub not_delivered_memory : (a : Answer) (ps : List (List ℕ × List ℕ)) (before after : Outside) (out : Output)
     (placed : Result (Unit {0}) IoFault) → placed ≡ Err NoMemory → (MemoryStatus ≡ a.status → ⊥) →
     PlacesAll ps before after placed → DeliversAll a ps before after out out MemoryStatus
 not_delivered_memory a ps before after out placed e other h =
-    nothing_put a ps before after out placed MemoryStatus h other (inr refl) refl (λ w. cc)
+    nothing_put a ps before after out placed MemoryStatus h other (inr refl) (λ w. cc)
     (inl (none_where_no_memory before.place_faults after.place_faults placed e h.cause))
 
 -- an answer with a text of its own is no fault

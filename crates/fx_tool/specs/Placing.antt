@@ -8,7 +8,6 @@ use Rattle.fx_io.specs.Outside.{Outside, Output}
 use Rattle.fx_io.specs.Shelf.{Files, KeepsNames, SameBut}
 use Rattle.fx_io.specs.declared.shelf.IoFault.{IoFault}
 use Rattle.fx_tool.specs.Answer.{Answer, Delivers}
-use Rattle.fx_tool.specs.Status.{IsBuiltStatus}
 use Rattle.fx_tool.specs.declared.status.Status.{Status}
 use Rattle.fx_tool.specs.declared.status.Status.TheVariants.{ReadFault, WriteFault}
 
@@ -68,7 +67,6 @@ pub record DeliversAll (wanted : Answer) (ps : List (List ℕ × List ℕ)) (bef
   pub files : ArePlaced ps (Rose before.place_faults after.place_faults) before.files after.files
   pub none : ps ≡ [] → PlacesNothing before after
   pub text_last : AllPlaced ps before after ⊎ (out' ≡ out)
-  pub only : IsBuiltStatus status
   pub spoken : status ≡ ReadFault → ⊥
   pub write_fault : status ≡ WriteFault →
       Rose before.place_faults after.place_faults ⊎ Rose out.faults out'.faults

@@ -17,7 +17,6 @@ use Rattle.fx_tool.specs.Plan.{Plan, Ends, answer_by, plan_calls, Follows, MayRe
 use Rattle.fx_tool.specs.Reading.{Has}
 use Rattle.fx_tool.specs.Show.{show_plan, Shows}
 use Rattle.fx_tool.specs.Simulate.{simulate_plan, Simulates}
-use Rattle.fx_tool.specs.Status.{IsBuiltStatus}
 use Rattle.fx_tool.specs.Writing.{Grows}
 use Rattle.fx_words.specs.declared.command.Verb.{Verb}
 use Rattle.fx_words.specs.declared.command.Verb.TheVariants.{Check, Gain, Large, Make, Report, Show, Simulate}
@@ -160,7 +159,6 @@ pub record Leaves (words : List (List ℕ)) (shelf shelf' : Outside) (out out' :
   pub quiet : status ≡ ReadFault → out'.told ≡ out.told
   pub grows : Grows out.told out'.told
   pub text_last : PlacesAllOf words shelf shelf' ⊎ (out' ≡ out)
-  pub only : IsBuiltStatus status
   pub read_fault : status ≡ ReadFault → Rose shelf.read_faults shelf'.read_faults
   pub write_fault : status ≡ WriteFault → Rose shelf.place_faults shelf'.place_faults ⊎ Rose out.faults out'.faults
   pub kept_reads : (shelf'.read_faults ≡ shelf.read_faults) ⊎ (status ≡ ReadFault)

@@ -1,5 +1,5 @@
 -- The numbers of the statuses.
-use Rattle.std.specs.Prelude.{ℕ, Bool, true, false, ◌||◌, IsTrue}
+use Rattle.std.specs.Prelude.{ℕ, Bool, true, false}
 use Rattle.fx_tool.specs.declared.status.Status.{Status}
 use Rattle.fx_tool.specs.declared.status.Status.TheVariants.{Done, Refused, Usage, BadFilter, BadCode}
 use Rattle.fx_tool.specs.declared.status.Status.TheVariants.{BadCertificate, BadSamples, NoDesign, ReadFault}
@@ -20,7 +20,7 @@ number_of TooLong = 10
 number_of Unbuildable = 11
 number_of NoMemory = 12
 
--- the statuses that have a text of their own, of the commands that are built
+-- the statuses that have a text of their own
 abbrev pub is_spoken : Status → Bool
 is_spoken Done = true
 is_spoken Refused = true
@@ -33,14 +33,3 @@ is_spoken NoDesign = true
 is_spoken TooLong = true
 is_spoken Unbuildable = true
 is_spoken _ = false
-
--- the statuses after which nothing more is put
-abbrev pub is_fault : Status → Bool
-is_fault ReadFault = true
-is_fault WriteFault = true
-is_fault NoMemory = true
-is_fault _ = false
-
--- the statuses of what is built
-abbrev pub IsBuiltStatus : Status → Type 0
-IsBuiltStatus s = IsTrue (is_spoken s || is_fault s)

