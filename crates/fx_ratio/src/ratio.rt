@@ -82,8 +82,8 @@ impl Ratio {
         small_span(w, self.fraction.num(), self.den, self.ratio)
     }
 
-    /// The product of `w / 2^64` with the fraction, rounded outward: what `Iv::multiple` answers. A `w` of 2^64 or more
-    /// in magnitude takes as long as there.
+    /// The product of `w / 2^64` with the fraction, rounded outward: what `Iv::multiple` answers. `w` is below
+    /// 2^`FACTOR_BITS` in magnitude; from 2^64 on it takes as long as there.
     pub fn multiple(self, w: i128) -> Span
         requires { unsigned_abs w < 2 ^ FACTOR_BITS }
         ensures ends { result ≡ multiple w self }
@@ -96,7 +96,8 @@ impl Ratio {
         }
     }
 
-    /// `w` times the fraction, rounded down and rounded up: what `fx_nums::mul_ends` answers.
+    /// `w` times the fraction, rounded down and rounded up: what `fx_nums::mul_ends` answers. `w` is below
+    /// 2^`FACTOR_BITS` in magnitude.
     #[inline]
     pub fn mul_ends(self, w: i128) -> (i128, i128)
         requires { unsigned_abs w < 2 ^ FACTOR_BITS }

@@ -1,6 +1,6 @@
-ghost use Rattle.std.specs.Prelude.{◌≡◌, ◌^◌, ◌<◌, unsigned_abs};
+ghost use Rattle.std.specs.Prelude.{◌≡◌, ◌^◌, ◌<◌, IfOk, replicate, unsigned_abs};
 ghost use Rattle.fx_nums.specs.Arithmetic.{multiple};
-ghost use Rattle.fx_nums.specs.Fraction.{den_value};
+ghost use Rattle.fx_nums.specs.Fraction.{den_value, zero_fraction};
 ghost use Rattle.fx_nums.specs.Products.{IsRoundedProduct};
 
 use crate::ratio::{Ratio, is_small};
@@ -17,8 +17,10 @@ pub struct Ratios {
 }
 
 impl Ratios {
-    /// Room for the ratios of so many places. Its error is want of memory.
-    pub fn new(alloc: Global, places: usize) -> Result<Ratios, AllocError> {
+    /// Room for the ratios of so many places, with the ratio of 0 at each. Its error is want of memory.
+    pub fn new(alloc: Global, places: usize) -> Result<Ratios, AllocError>
+        ensures { IfOk result (λ ratios. ratios.at.items ≡ replicate places zero_fraction) }
+    {
         Ok(Ratios {
             at: vec![in alloc; Ratio::new(Frac::zero()); places]?,
         })
@@ -52,6 +54,7 @@ impl Ratios {
 
     /// The product of `w / 2^64` with the coefficient at a place, rounded outward: what `Iv::multiple` answers. Only
     /// where the coefficient is new at its place, or there is no room for it, does this take a division.
+    /// `w` is below 2^`FACTOR_BITS` in magnitude.
     #[inline(always)]
     pub fn multiple(&mut self, place: usize, w: i128, coef: Frac) -> Span
         requires { unsigned_abs w < 2 ^ FACTOR_BITS }

@@ -41,7 +41,7 @@ impl Span {
     // From a low end on, so many times 2^-64 wide.
     #[inline(always)]
     pub(crate) fn above(low: i128, width: u128) -> Span
-        requires low { unsigned_abs low ≤ 2 ^ 119 }
+        requires low { unsigned_abs low ≤ 2 ^ SUMMAND_BITS }
         requires width { width ≤ 2 ^ 60 }
         ensures { result ≡ record { lo = low; hi = low +ℤ pos width } }
     {
@@ -88,7 +88,7 @@ impl Span {
         self.low + self.width as i128
     }
 
-    /// The sums of the numbers of both.
+    /// The sums of the numbers of both. Both fit `SUMMAND_BITS`.
     #[inline(always)]
     pub fn add(self, o: Span) -> Span
         requires left { IntervalFits self SUMMAND_BITS }
