@@ -1,5 +1,6 @@
 -- Equation systems, as contracts see them.
-use Rattle.std.specs.Prelude.{ℕ, ◌==◌, Bool, not, unsigned_abs, List, filter}
+use Rattle.std.specs.Prelude.{ℕ, Bool, not, List, filter}
+use Rattle.fx_nums.specs.Fraction.{is_zero}
 use Rattle.fx_eqs.specs.declared.term.Term.{Term}
 
 -- rows and inputs are numbered from 0; the terms of all rows stand in one list; outputs are rows
@@ -11,7 +12,7 @@ pub record Equations : Type 0 where
 
 -- the coefficient is not 0
 abbrev pub is_kept : Term → Bool
-is_kept t = not (unsigned_abs t.coef.num == 0)
+is_kept t = not (is_zero t.coef)
 
 -- the terms that a system has, of those that are given
 abbrev pub kept : List Term → List Term

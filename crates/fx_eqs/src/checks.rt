@@ -1,4 +1,4 @@
-ghost use Rattle.std.specs.Prelude.{◌≡◌, ◌+◌, ◌*◌, ◌-◌, ◌<◌, ◌≤◌, ◌^◌, [], length, IfOk, None, count_by, filter};
+ghost use Rattle.std.specs.Prelude.{◌≡◌, ◌+◌, ◌*◌, ◌-◌, ◌<◌, ◌≤◌, ◌^◌, [], length, IfOk, None, filter};
 ghost use Rattle.std.specs.List.{list_any};
 ghost use Rattle.fx_math.specs.Sums.{sum_below};
 ghost use Rattle.fx_eqs.specs.Lags.{greatest_lag, net_rows};
@@ -15,7 +15,7 @@ use std::alloc::{AllocError, Global};
 fn is_kept(term: &Term) -> bool
     ensures { result ≡ is_kept term.now }
 {
-    term.coef.num() != 0
+    !term.coef.is_zero()
 }
 
 // The fault of a term's row and source.

@@ -1,3 +1,8 @@
+ghost use Rattle.std.specs.Prelude.{◌≡◌};
+ghost use Rattle.fx_eqs.specs.declared.fault.EqsFault.TheVariants.{NoMemory};
+
+use std::alloc::AllocError;
+
 /// Why terms make no equation system. A number of 32 bits is the place of a term among the given ones.
 #[derive(Clone, Copy, Debug, PartialEq, Eq)]
 pub enum EqsFault {
@@ -17,4 +22,12 @@ pub enum EqsFault {
     Twice(u32),
     /// Memory was refused.
     NoMemory,
+}
+
+impl From<AllocError> for EqsFault {
+    ghost from_gives = { λ _ e. e ≡ NoMemory };
+
+    fn from(_e: AllocError) -> EqsFault {
+        EqsFault::NoMemory
+    }
 }

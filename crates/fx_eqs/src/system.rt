@@ -1,4 +1,4 @@
-ghost use Rattle.std.specs.Prelude.{◌≡◌, ◌<◌, ◌≤◌, ◌^◌, length, All, IfOk, filter};
+ghost use Rattle.std.specs.Prelude.{◌≡◌, ◌<◌, ◌≤◌, ◌^◌, length, All, IfOk};
 ghost use Rattle.fx_eqs.specs.Equations.{Equations, kept};
 ghost use Rattle.fx_eqs.specs.Expanded.{expanded};
 ghost use Rattle.fx_math.specs.Answers.{fault_told};
@@ -39,6 +39,9 @@ impl Eqs {
     /// The system of the terms with a coefficient other than 0, in their order. The others are dropped before any
     /// check.
     ///
+    /// At most 256 rows, 1 to `PORTS` inputs, and fewer than 2^32 terms; 1 to `PORTS` outputs, each below the count of
+    /// rows where there are rows.
+    ///
     /// Its error is the first fault, term by term and then of the counts, and `NoMemory` only where there is none.
     pub fn build(
         alloc: Global,
@@ -66,12 +69,8 @@ impl Eqs {
         if let Some(fault) = eqs_fault(rows, inputs, terms) {
             return Err(fault);
         }
-        let Ok(kept) = kept_terms(alloc, terms) else {
-            return Err(EqsFault::NoMemory);
-        };
-        let Ok(outputs) = outputs.to_vec(alloc) else {
-            return Err(EqsFault::NoMemory);
-        };
+        let kept = kept_terms(alloc, terms)?;
+        let outputs = outputs.to_vec(alloc)?;
         Ok(Eqs {
             rows,
             inputs,

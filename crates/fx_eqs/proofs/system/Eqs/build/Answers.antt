@@ -9,8 +9,8 @@ returns-in-Some-clause-fault c =
 
 pub invariant_of-result : goal.invariant_of-result
 invariant_of-result c =
-    let same = c.in-Ok-to_vec.ensures.items_if_clones_equal (λ x y e. e) in
+    let same = c.in_ok-outputs.ensures.items_if_clones_equal (λ x y e. e) in
     let fits = system_fits c.args.rows c.args.inputs c.args.terms.now c.args.outputs.now c.requires.inputs_low
     c.requires.inputs_high c.requires.outputs_low c.requires.outputs_high c.requires.outputs_below
     (sym c.eqs_fault.ensures ∙ c.in_default.is) in
-    record { fits = rw (same, c.in-Ok.ensures) fits; net = rw (c.in-Ok.ensures) c.net_rows.ensures }
+    record { fits = rw (same, c.in_ok-kept.ensures) fits; net = rw (c.in_ok-kept.ensures) c.net_rows.ensures }
