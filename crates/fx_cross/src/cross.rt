@@ -53,7 +53,7 @@ pub struct Link {
     pub coef: Frac,
 }
 
-/// A table of fractions with up to 64 rows and columns, which has memory for so many entries other than 0.
+/// A table of fractions with up to `GREATEST_SIDE` rows and columns, which has memory for so many entries other than 0.
 ///
 /// Each such entry is a cell at a place of its own, in the list of its row by rising column and in the list of
 /// its column by rising row. The cells of no entry are a list too, and are used again.
@@ -134,7 +134,8 @@ fn chain_all(cells: &mut Vec<Cell>, room: usize)
 }
 
 impl Cross {
-    /// A table of zeros. Its error is want of memory.
+    /// A table of zeros, with 1 to `GREATEST_SIDE` rows and columns and room for 1 to `GREATEST_ROOM` entries other
+    /// than 0. Its error is want of memory.
     pub fn new(alloc: Global, rows: usize, columns: usize, room: usize) -> Result<Cross, AllocError>
         requires rows_low { 1 ≤ rows }
         requires rows_high { rows ≤ GREATEST_SIDE }

@@ -1,4 +1,4 @@
-ghost use Rattle.std.specs.Prelude.{◌≡◌, ℕ, ◌+◌, ◌*◌, ◌<◌, ◌≤◌, IfOk};
+ghost use Rattle.std.specs.Prelude.{◌≡◌, ◌+◌, ◌*◌, ◌<◌, IfOk};
 ghost use Rattle.fx_mat.specs.Entries.{no_entries, put, put_column, transposed, IsZeroOutside};
 ghost use Rattle.fx_mat.specs.Matrix.{entry_at};
 

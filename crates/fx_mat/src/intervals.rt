@@ -1,5 +1,5 @@
 ghost use Rattle.std.specs.Prelude.{◌≡◌, ◌↔◌, ℕ, ◌^◌, ◌<◌, ◌≤◌, IfOk, IsTrue, unsigned_abs};
-ghost use Rattle.fx_nums.specs.Interval.{IntervalFits, point};
+ghost use Rattle.fx_nums.specs.Interval.{point};
 ghost use Rattle.fx_mat.specs.Intervals.{
   EntriesFit,
   IsProductBelow,

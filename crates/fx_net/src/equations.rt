@@ -1,6 +1,4 @@
-ghost use Rattle.std.specs.Prelude.{◌≡◌, ◌+◌, ◌-◌, ◌<◌, ◌≤◌, [], ◌∷◌, length};
-ghost use Rattle.fx_math.specs.Sums.{joined};
-ghost use Rattle.fx_nums.specs.Fraction.{one_fraction};
+ghost use Rattle.std.specs.Prelude.{◌≡◌, ◌+◌, ◌<◌, ◌≤◌, length};
 ghost use Rattle.fx_eqs.specs.Expanded.{equation_row, expanded, hold_rows, row_place};
 ghost use Rattle.fx_net.specs.Layout.{read_of};
 ghost use Rattle.fx_net.specs.Rows.{AreEmpty, ReadFits, put_each, put_rows, put_term, put_terms};

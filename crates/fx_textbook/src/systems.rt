@@ -8,8 +8,9 @@ ghost use Rattle.fx_textbook.specs.Shapes.{SpaceFits};
 
 use crate::terms::{Space, cascade_terms, ladder_terms, space_terms, transfer_terms};
 use fx_eqs::{
-    COEFFICIENTS, Eqs, EqsFault, PORTS, REFLECTIONS, SECTIONS, Term, cascades_have_no_fault,
-    lattices_have_no_fault, state_spaces_have_no_fault, transfer_functions_have_no_fault,
+    COEFFICIENTS, Eqs, EqsFault, PORTS, REFLECTIONS, SECTIONS, STATES, Term,
+    cascades_have_no_fault, lattices_have_no_fault, state_spaces_have_no_fault,
+    transfer_functions_have_no_fault,
 };
 use fx_nums::Frac;
 use std::alloc::{AllocError, Global};
@@ -75,7 +76,7 @@ pub fn cascade_system(alloc: Global, sections: &[Frac]) -> Result<Eqs, AllocErro
 // The numbers from this one on, so many.
 #[tactic(auto, using(crate::proofs::TermSteps::up_one))]
 fn up_from(alloc: Global, first: usize, count: usize) -> Result<Vec<u8>, AllocError>
-    requires { first + count ≤ 200 }
+    requires { first + count ≤ STATES + PORTS }
     ensures { IfOk result (λ v. v.items ≡ up_from first count) }
 {
     let mut numbers = Vec::new(alloc);

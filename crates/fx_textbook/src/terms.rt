@@ -1,7 +1,7 @@
 //! The terms of each form, in the order written.
 
-ghost use Rattle.std.specs.Prelude.{◌≡◌, ◌≤◌, ◌<◌, ◌+◌, ◌*◌, ◌^◌, ◌++◌, [], ◌∷◌, length, map, drop, OnOk, IfOk};
-ghost use Rattle.fx_nums.specs.Fraction.{one_fraction, minus};
+ghost use Rattle.std.specs.Prelude.{◌≡◌, ◌≤◌, ◌<◌, ◌+◌, ◌*◌, ◌^◌, ◌++◌, [], ◌∷◌, length, map, OnOk, IfOk};
+ghost use Rattle.fx_nums.specs.Fraction.{minus};
 ghost use Rattle.fx_eqs.specs.Textbook.{
   backward,
   backward_rows,
@@ -13,7 +13,6 @@ ghost use Rattle.fx_eqs.specs.Textbook.{
   over_sources,
   recursion,
   sections,
-  sos_terms,
   ss_terms,
   tf_terms,
 };
@@ -51,7 +50,7 @@ fn over_lags(
     first: u8,
     coefficients: &[Frac],
 ) -> Result<(), AllocError>
-    requires { first + length coefficients.now ≤ 200 }
+    requires { first + length coefficients.now ≤ COEFFICIENTS + 1 }
     ensures { OnOk result (terms.new.items ≡ terms.old.items ++ over_lags row from first coefficients.now) }
 {
     let mut lag = first;
@@ -70,7 +69,7 @@ fn against_lags(
     first: u8,
     coefficients: &[Frac],
 ) -> Result<(), AllocError>
-    requires { first + length coefficients.now ≤ 200 }
+    requires { first + length coefficients.now ≤ COEFFICIENTS + 1 }
     ensures { OnOk result (terms.new.items ≡ terms.old.items ++ over_lags row from first (map minus coefficients.now)) }
 {
     let mut lag = first;
