@@ -15,7 +15,8 @@ use std::marker::Model;
 pub struct Machine<'p> {
     program: &'p Program,
     rows: Vec<PreparedRow>,
-    // The words of this moment's rows, from 40 on those of the moment before, and from 80 on the inputs.
+    // The words of this moment's rows, from `FIRST_OLD` on those of the moment before, and from `FIRST_INPUT` on the
+    // inputs.
     words: [i64; WORD_COUNT],
 }
 

@@ -1,6 +1,5 @@
 ghost use Rattle.std.specs.Prelude.{◌≡◌, ◌+◌, ◌*◌, ◌^◌, ◌<◌, ◌≤◌, length, map, IfOk, unsigned_abs};
-ghost use Rattle.fx_code.specs.Code.{row_at, constant_of, weight};
-ghost use Rattle.fx_code.specs.Fits.{TermFits};
+ghost use Rattle.fx_code.specs.Code.{row_at, weight};
 ghost use Rattle.fx_machine.specs.Prepared.{
   place_of,
   half_of,
