@@ -27,9 +27,9 @@ impl Model for Cert {
 }
 
 impl Cert {
-    /// A certificate with a block of `length` moments, 1 to 4096, with 1 to 64 bounds x from 0 to 2147483647 in steps
-    /// of their rows, and with 1 to 4 errors e from 0 to 2^96 - 1 in units of 2^-64 output steps. Its error is want of
-    /// memory.
+    /// A certificate with a block of `length` moments, 1 to `GREATEST_LENGTH`, with 1 to `GREATEST_ROWS` bounds x from
+    /// 0 to 2147483647 in steps of their rows, and with 1 to `GREATEST_OUTPUTS` errors e from 0 to `GREATEST_ERROR` in
+    /// units of 2^-64 output steps. Its error is want of memory.
     pub fn build(alloc: Global, length: u16, x: &[i64], e: &[i128]) -> Result<Cert, AllocError>
         requires { CertificateFits (record { length = length; bounds = x.now; errors = e.now }) }
         ensures { IfOk result (λ c. c ≡ record { length = length; bounds = x.now; errors = e.now }) }
@@ -56,7 +56,7 @@ impl Cert {
         })
     }
 
-    /// How many moments a block has: 1 to 4096.
+    /// How many moments a block has: 1 to `GREATEST_LENGTH`.
     pub fn length(&self) -> u16
         ensures value { result ≡ self.now.length }
         ensures low { LEAST_LENGTH ≤ result }
@@ -65,7 +65,7 @@ impl Cert {
         self.block
     }
 
-    /// How many moments the block of row i has: 1 to 4096.
+    /// How many moments the block of row i has: 1 to `GREATEST_LENGTH`.
     pub fn row_length(&self, i: usize) -> u16
         requires { i < length self.now.bounds }
         ensures value { result ≡ row_length self.now i }
@@ -76,7 +76,7 @@ impl Cert {
         self.block
     }
 
-    /// How many moments the block of output o has: 1 to 4096.
+    /// How many moments the block of output o has: 1 to `GREATEST_LENGTH`.
     pub fn output_length(&self, o: usize) -> u16
         requires { o < length self.now.errors }
         ensures value { result ≡ output_length self.now o }
@@ -87,7 +87,8 @@ impl Cert {
         self.block
     }
 
-    /// The bound of each row in steps of the row, those of the code's rows first: 1 to 64, each 0 to 2147483647.
+    /// The bound of each row in steps of the row, those of the code's rows first: 1 to `GREATEST_ROWS`, each
+    /// 0 to 2147483647.
     pub fn x(&self) -> &[i64]
         ensures value { result.now ≡ self.now.bounds }
         ensures low { 1 ≤ length result.now }
@@ -97,7 +98,7 @@ impl Cert {
         &self.bounds
     }
 
-    /// The error of each output in units of 2^-64 output steps: 1 to 4, each 0 to 2^96 - 1.
+    /// The error of each output in units of 2^-64 output steps: 1 to `GREATEST_OUTPUTS`, each 0 to `GREATEST_ERROR`.
     pub fn e(&self) -> &[i128]
         ensures value { result.now ≡ self.now.errors }
         ensures low { 1 ≤ length result.now }

@@ -1,6 +1,6 @@
 //! Lines of a text.
 
-ghost use Rattle.std.specs.Prelude.{◌≡◌, [], option_map};
+ghost use Rattle.std.specs.Prelude.{◌≡◌, option_map};
 ghost use Rattle.fx_math.specs.Answers.{Gives};
 ghost use Rattle.fx_cert.specs.Laws.{JoinedLaw, LinesLaw};
 ghost use Rattle.fx_cert.specs.Lines.{lines_of};

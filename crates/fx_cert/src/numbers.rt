@@ -1,8 +1,7 @@
 //! Numbers as they are written in a certificate.
 
-ghost use Rattle.std.specs.Prelude.{◌≡◌, ◌≤◌, ◌<◌, ◌^◌, IfOk, IfSome, option_map, pos};
+ghost use Rattle.std.specs.Prelude.{◌≡◌, ◌≤◌, ◌<◌, IfOk, IfSome, option_map};
 ghost use Rattle.fx_math.specs.Answers.{Gives};
-ghost use Rattle.fx_msb.specs.declared.widths.TheConstants.{GREATEST_BOUND};
 ghost use Rattle.fx_cert.specs.Laws.{NumberLaw};
 ghost use Rattle.fx_cert.specs.Reading.{
   behind,
@@ -25,7 +24,7 @@ fn value_within(digits: &[u8], high: u128) -> Option<u128>
 {
     let mut value = 0u128;
     for digit in digits {
-        if *digit < b'0' || *digit > b'9' {
+        if !digit.is_ascii_digit() {
             return None;
         }
         value = 10 * value + (*digit - b'0') as u128;

@@ -54,7 +54,7 @@ fn text_of(alloc: Global, certificate: &Cert) -> Result<Vec<u8>, AllocError>
     Ok(out)
 }
 
-/// The text of a certificate, at most 65,536 bytes.
+/// The text of a certificate, at most `GREATEST_TEXT` bytes.
 ///
 /// # Errors
 ///
@@ -64,8 +64,7 @@ pub fn write_cert(alloc: Global, c: &Cert) -> Result<Vec<u8>, AllocError>
     ensures short { IfOk result (λ v. length v.items ≤ GREATEST_TEXT) }
 {
     certificates_fit(c);
-    let text = text_of(alloc, c)?;
-    Ok(text)
+    text_of(alloc, c)
 }
 
 /// A law with nothing to run: the text of a certificate is read as the same certificate.

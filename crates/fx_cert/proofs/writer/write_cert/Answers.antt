@@ -1,5 +1,7 @@
+use Rattle.std.proofs.lemmas.Result.{IfOk-weaker}
 use Rattle.fx_cert.proofs.Lengths.{text_short}
 use Rattle.fx_cert.proofs.writer.write_cert.Goals as goal
 
 pub returns-clause-short : goal.returns-clause-short
-returns-clause-short c = rw c.in_ok-text.ensures (text_short c.args.c.now c.certificates_fit.ensures)
+returns-clause-short c =
+    IfOk-weaker c.text_of.result _ _ (λ v e. rw e (text_short c.args.c.now c.certificates_fit.ensures)) c.text_of.ensures
