@@ -1,0 +1,7 @@
+use Rattle.std.proofs.Common.{◌≡◌, ◌+◌, drop}
+use Rattle.fx_nums.specs.Signs.{is_digit}
+use Rattle.fx_text.specs.TokenReading.{front_len}
+use Rattle.fx_text.proofs.token.digits_len.Given as goal
+
+abbrev pub invariant-loop-i : goal.invariant-loop-i
+invariant-loop-i l = l.i + front_len is_digit (drop l.i l.bytes) ≡ front_len is_digit l.bytes
