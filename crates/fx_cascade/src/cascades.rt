@@ -3,7 +3,7 @@
 ghost use Rattle.std.specs.Prelude.{◌≡◌, ◌<◌, IfOk};
 ghost use Rattle.fx_eqs.specs.Textbook.{sos_equations};
 ghost use Rattle.fx_sif.specs.SameOutputs.{HasOutputs};
-ghost use Rattle.fx_cascade.specs.Cascades.{cascade_df1_form, cascade_df2t_form, single};
+ghost use Rattle.fx_cascade.specs.Cascades.{cascade_df1_form, cascade_df2t_form};
 ghost use Rattle.fx_cascade.specs.Sections.{SectionsFit};
 
 use crate::laws::{

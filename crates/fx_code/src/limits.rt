@@ -14,7 +14,7 @@ pub const LONGEST_SHIFT: u8 = 62;
 /// A coefficient has a magnitude below 2 to this power, also when it is shifted to the left.
 pub const COEFFICIENT_BITS: u8 = 62;
 
-/// A coefficient shifted to the left has a magnitude below 2 to this power and the row's right shift.
+/// A coefficient shifted to the left has a magnitude below 2 to the power of this and the row's right shift together.
 pub const PRODUCT_BITS: u8 = 24;
 
 /// The numbers that the limits of programs are.

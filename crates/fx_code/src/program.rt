@@ -19,7 +19,7 @@ ghost use Rattle.std.specs.Prelude.{
   slice_index,
   All,
 };
-ghost use Rattle.fx_code.specs.Code.{Row, Code, row_at, bare, constant_of, OldIsThere, IsWhole};
+ghost use Rattle.fx_code.specs.Code.{Code, row_at, bare, constant_of, OldIsThere, IsWhole};
 ghost use Rattle.fx_code.specs.Inside.{row_of, RowReadsFit};
 ghost use Rattle.fx_math.specs.Answers.{fault_told};
 ghost use Rattle.fx_math.specs.Words.{WidthFits};
@@ -356,7 +356,7 @@ fn read_is_there(from: Read, rows: usize) -> bool
 }
 
 // The power of two with this exponent.
-pub fn power_of_two(k: u8) -> i64
+fn power_of_two(k: u8) -> i64
     requires { k ≤ LONGEST_SHIFT }
     ensures { result ≡ pos (2 ^ k) }
 {
