@@ -174,6 +174,7 @@ impl<'a, const N: usize> Block<'a, N> {
             ≡ worst_words (net_of self.now.net.now) self.now.filter.now self.now.moments o j) }
     {
         filters_fit(self.filter);
-        worst_words(alloc, weights, j, bound_of(self.filter, j), self.moments)
+        let words = worst_words(alloc, weights, j, bound_of(self.filter, j), self.moments)?;
+        Ok(words)
     }
 }
