@@ -4,7 +4,7 @@ ghost use Rattle.fx_eqs.specs.declared.fault.EqsFault.TheVariants.{NoMemory};
 use std::alloc::AllocError;
 
 /// Why terms make no equation system. A number of 32 bits is the place of a term among the given ones.
-#[derive(Clone, Copy, Debug, PartialEq, Eq)]
+#[derive(Clone, Copy)]
 pub enum EqsFault {
     /// The term reads a row of the same moment that is not an earlier one.
     ForwardNow(u32),

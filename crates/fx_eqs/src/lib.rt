@@ -5,10 +5,9 @@ mod checks;
 mod fault;
 mod laws;
 mod limits;
+mod mode;
 mod system;
 mod term;
-#[cfg(test)]
-mod tests;
 
 pub use fault::EqsFault;
 pub use laws::{
@@ -22,5 +21,6 @@ pub use limits::{
     COEFFICIENTS, EQUATION_TERMS, LONGEST_LAG, NET_ROWS, PORTS, REFLECTIONS, SECTIONS, STATES,
     equation_limits_are_these, form_limits_are_these,
 };
+pub use mode::Mode;
 pub use system::{Eqs, systems_fit};
 pub use term::{Source, Term};

@@ -1,7 +1,7 @@
 use fx_nums::Frac;
 
 /// What a term reads.
-#[derive(Clone, Copy, Debug, PartialEq, Eq)]
+#[derive(Clone, Copy, PartialEq, Eq)]
 pub enum Source {
     /// The row of this number.
     Row(u8),
@@ -10,7 +10,7 @@ pub enum Source {
 }
 
 /// A summand of a row: a coefficient times a source, `lag` moments before.
-#[derive(Clone, Copy, Debug, PartialEq, Eq)]
+#[derive(Clone, Copy)]
 pub struct Term {
     /// The row that it belongs to, below the count of rows.
     pub row: u8,
