@@ -1,6 +1,6 @@
 -- The text of a program is short: each line has at most 64 bytes.
 use Rattle.std.proofs.Common.{◌≡◌, ◌≤◌, ◌<◌, ◌+◌, ◌*◌, ◌^◌, ℕ, zero, suc, ℤ, pos, negsuc, unsigned_abs, List}
-use Rattle.std.proofs.Common.{[], ◌∷◌, ◌++◌, codes, decimal, length, All, length-append, arith, lit<}
+use Rattle.std.proofs.Common.{[], ◌∷◌, ◌++◌, codes, decimal, length, All, length-append, refl, arith, lit<}
 use Rattle.std.proofs.lemmas.Fmt.{length-decimal-le_wide}
 use Rattle.std.proofs.lemmas.List.Elements.{All-head, All-tail, All-weaker}
 use Rattle.std.proofs.lemmas.List.Sums.{sum_by-append}

@@ -163,9 +163,9 @@ constant_at text at = do
 unfoldable pub mode_at : List ℕ → ℕ → Result (Mode × ℕ) CodeFault
 mode_at text at = do
   t ← token_at text at
-  if bytes_eq t.1 (shift_word Nearest) then Ok (Nearest, t.2)
-  else if bytes_eq t.1 (shift_word Floor) then Ok (Floor, t.2)
-  else Err (Unexpected t.0)
+  if bytes_eq t.1 (shift_word Nearest)
+      then Ok (Nearest, t.2)
+      else (if bytes_eq t.1 (shift_word Floor) then Ok (Floor, t.2) else Err (Unexpected t.0))
 
 -- `= LOW ( SAR ( a` or `= LOW ( FLR ( a`
 unfoldable pub store_begins_at : List ℕ → ℕ → Result (Mode × ℕ) CodeFault

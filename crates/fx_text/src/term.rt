@@ -25,7 +25,9 @@ use crate::fault::CodeFault;
 use crate::token::{
     begins_with_letter, due_at, expect_at, name_number, next_at, number_at, pair_at, token_at,
 };
-use fx_code::{COEFFICIENT_BITS, CodeTerm, LONGEST_SHIFT, LimitOf, Read, constant_in, reads_source};
+use fx_code::{
+    COEFFICIENT_BITS, CodeTerm, LONGEST_SHIFT, LimitOf, Read, constant_in, reads_source,
+};
 use fx_eqs::Mode;
 use fx_math::{GREATEST_WIDTH, LEAST_WIDTH};
 use fx_nums::signed;
