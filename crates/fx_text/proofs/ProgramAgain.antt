@@ -1,7 +1,7 @@
 -- A program that a text spells is read from it.
-use Rattle.std.proofs.Common.{◌≡◌, ◌≤◌, ◌<◌, ◌+◌, ◌^◌, ◌∙◌, ◌==◌, ℕ, zero, suc, Bool, true, false, cond, List}
+use Rattle.std.proofs.Common.{◌≡◌, ◌≤◌, ◌<◌, ◌+◌, ◌∙◌, ◌==◌, ℕ, zero, suc, Bool, true, false, cond, List}
 use Rattle.std.proofs.Common.{[], ◌∷◌, ◌++◌, codes, length, drop, All, Option, None, Result, Ok, Err, refl, sym}
-use Rattle.std.proofs.Common.{ap, subst, append_assoc, length-append, slice_index_or, arith, lit<}
+use Rattle.std.proofs.Common.{ap, subst, append_assoc, length-append, slice_index_or, arith}
 use Rattle.std.proofs.lemmas.Bool.{eq-eqb, lt-leb}
 use Rattle.std.proofs.lemmas.Bool.Decides.{Decides-eqb}
 use Rattle.std.proofs.lemmas.List.{append-nil, drop_at}
