@@ -21,6 +21,7 @@ use Rattle.fx_files.specs.Reading.{filter_in}
 use Rattle.fx_keys.specs.Table.{only_keys}
 use Rattle.fx_keys.specs.Wholes.{all_whole, each_natural, naturals}
 use Rattle.fx_files.specs.declared.forms.Structure.TheVariants as structure
+use Rattle.fx_eqs.specs.declared.mode.Mode.TheVariants.{Nearest}
 use Rattle.fx_files.proofs.HeldFilter.{filter_read}
 
 abbrev pub butterworth8_table : Members
@@ -32,7 +33,7 @@ butterworth8_filter = record {
   inputs = record { width = 16; bound = pos 16384 } ∷ [];
   outputs = record { row = 3; width = 16; low = pos 0; error = record { num = pos 4; den = Ten 0 }; target = pos 73786976294838206464 } ∷ [];
   coefficients = coefficients.Sos (record { num = pos 13587863327805832; den = Ten 18 } ∷ record { num = pos 27175726655611665; den = Ten 18 } ∷ record { num = pos 13587863327805832; den = Ten 18 } ∷ record { num = pos 1; den = Ten 0 } ∷ record { num = negsuc 15407408817902507; den = Ten 16 } ∷ record { num = pos 59509233510147416; den = Ten 17 } ∷ record { num = pos 140199839177223; den = Ten 16 } ∷ record { num = pos 280399678354446; den = Ten 16 } ∷ record { num = pos 140199839177223; den = Ten 16 } ∷ record { num = pos 1; den = Ten 0 } ∷ record { num = negsuc 15897394507841834; den = Ten 16 } ∷ record { num = pos 64581938645507273; den = Ten 17 } ∷ record { num = pos 14895264623259493; den = Ten 18 } ∷ record { num = pos 29790529246518986; den = Ten 18 } ∷ record { num = pos 14895264623259493; den = Ten 18 } ∷ record { num = pos 1; den = Ten 0 } ∷ record { num = negsuc 16889883712015436; den = Ten 16 } ∷ record { num = pos 74856942969458162; den = Ten 17 } ∷ record { num = pos 16218180779877796; den = Ten 18 } ∷ record { num = pos 32436361559755593; den = Ten 18 } ∷ record { num = pos 16218180779877796; den = Ten 18 } ∷ record { num = pos 1; den = Ten 0 } ∷ record { num = negsuc 18389951056313484; den = Ten 16 } ∷ record { num = pos 90386782875085972; den = Ten 17 } ∷ []);
-  settings = record { structure = structure.Df2t; accumulator = 64; word = 32; guards = 4 ∷ 8 ∷ []; fractions = 20 ∷ 26 ∷ []; lengths = 64 ∷ 256 ∷ 1024 ∷ 4096 ∷ [] };
+  settings = record { structure = structure.Df2t; rounding = Nearest; accumulator = 64; word = 32; guards = 4 ∷ 8 ∷ []; fractions = 20 ∷ 26 ∷ []; lengths = 64 ∷ 256 ∷ 1024 ∷ 4096 ∷ [] };
   equations = record { rows = 4; inputs = 1; terms = record { row = 0; coef = record { num = pos 13587863327805832; den = Ten 18 }; from = In 0; lag = 0 } ∷ record { row = 0; coef = record { num = pos 27175726655611665; den = Ten 18 }; from = In 0; lag = 1 } ∷ record { row = 0; coef = record { num = pos 13587863327805832; den = Ten 18 }; from = In 0; lag = 2 } ∷ record { row = 0; coef = record { num = pos 15407408817902508; den = Ten 16 }; from = Row 0; lag = 1 } ∷ record { row = 0; coef = record { num = negsuc 59509233510147415; den = Ten 17 }; from = Row 0; lag = 2 } ∷ record { row = 1; coef = record { num = pos 140199839177223; den = Ten 16 }; from = Row 0; lag = 0 } ∷ record { row = 1; coef = record { num = pos 280399678354446; den = Ten 16 }; from = Row 0; lag = 1 } ∷ record { row = 1; coef = record { num = pos 140199839177223; den = Ten 16 }; from = Row 0; lag = 2 } ∷ record { row = 1; coef = record { num = pos 15897394507841835; den = Ten 16 }; from = Row 1; lag = 1 } ∷ record { row = 1; coef = record { num = negsuc 64581938645507272; den = Ten 17 }; from = Row 1; lag = 2 } ∷ record { row = 2; coef = record { num = pos 14895264623259493; den = Ten 18 }; from = Row 1; lag = 0 } ∷ record { row = 2; coef = record { num = pos 29790529246518986; den = Ten 18 }; from = Row 1; lag = 1 } ∷ record { row = 2; coef = record { num = pos 14895264623259493; den = Ten 18 }; from = Row 1; lag = 2 } ∷ record { row = 2; coef = record { num = pos 16889883712015437; den = Ten 16 }; from = Row 2; lag = 1 } ∷ record { row = 2; coef = record { num = negsuc 74856942969458161; den = Ten 17 }; from = Row 2; lag = 2 } ∷ record { row = 3; coef = record { num = pos 16218180779877796; den = Ten 18 }; from = Row 2; lag = 0 } ∷ record { row = 3; coef = record { num = pos 32436361559755593; den = Ten 18 }; from = Row 2; lag = 1 } ∷ record { row = 3; coef = record { num = pos 16218180779877796; den = Ten 18 }; from = Row 2; lag = 2 } ∷ record { row = 3; coef = record { num = pos 18389951056313485; den = Ten 16 }; from = Row 3; lag = 1 } ∷ record { row = 3; coef = record { num = negsuc 90386782875085971; den = Ten 17 }; from = Row 3; lag = 2 } ∷ []; outputs = 3 ∷ [] };
 }
 
@@ -52,7 +53,7 @@ dc_blocker_filter = record {
   inputs = record { width = 16; bound = pos 32767 } ∷ [];
   outputs = record { row = 0; width = 19; low = negsuc 1; error = record { num = pos 4; den = Ten 0 }; target = pos 73786976294838206464 } ∷ [];
   coefficients = coefficients.Tf (record { num = pos 1; den = Ten 0 } ∷ record { num = negsuc 0; den = Ten 0 } ∷ []) (record { num = pos 1; den = Ten 0 } ∷ record { num = negsuc 99738543007936287; den = Ten 17 } ∷ []);
-  settings = record { structure = structure.Df1; accumulator = 64; word = 32; guards = 0 ∷ 4 ∷ 8 ∷ []; fractions = 14 ∷ 20 ∷ 26 ∷ []; lengths = 1024 ∷ 2048 ∷ 4096 ∷ [] };
+  settings = record { structure = structure.Df1; rounding = Nearest; accumulator = 64; word = 32; guards = 0 ∷ 4 ∷ 8 ∷ []; fractions = 14 ∷ 20 ∷ 26 ∷ []; lengths = 1024 ∷ 2048 ∷ 4096 ∷ [] };
   equations = record { rows = 1; inputs = 1; terms = record { row = 0; coef = record { num = pos 1; den = Ten 0 }; from = In 0; lag = 0 } ∷ record { row = 0; coef = record { num = negsuc 0; den = Ten 0 }; from = In 0; lag = 1 } ∷ record { row = 0; coef = record { num = pos 99738543007936288; den = Ten 17 }; from = Row 0; lag = 1 } ∷ []; outputs = 0 ∷ [] };
 }
 
@@ -72,7 +73,7 @@ fir13_filter = record {
   inputs = record { width = 12; bound = pos 2047 } ∷ [];
   outputs = record { row = 0; width = 13; low = negsuc 0; error = record { num = pos 1; den = Ten 0 }; target = pos 18446744073709551616 } ∷ [];
   coefficients = coefficients.Tf (record { num = negsuc 27197482964866294; den = Ten 19 } ∷ record { num = pos 0; den = Ten 0 } ∷ record { num = pos 15808536973328534; den = Ten 18 } ∷ record { num = pos 59408709991559901; den = Ten 18 } ∷ record { num = pos 12706862970416979; den = Ten 17 } ∷ record { num = pos 19141010953237059; den = Ten 17 } ∷ record { num = pos 21804752419011562; den = Ten 17 } ∷ record { num = pos 19141010953237059; den = Ten 17 } ∷ record { num = pos 12706862970416979; den = Ten 17 } ∷ record { num = pos 59408709991559901; den = Ten 18 } ∷ record { num = pos 15808536973328534; den = Ten 18 } ∷ record { num = pos 0; den = Ten 0 } ∷ record { num = negsuc 27197482964866294; den = Ten 19 } ∷ []) (record { num = pos 1; den = Ten 0 } ∷ []);
-  settings = record { structure = structure.Fir; accumulator = 32; word = 32; guards = 0 ∷ 4 ∷ 8 ∷ []; fractions = 14 ∷ 20 ∷ 26 ∷ []; lengths = 13 ∷ 16 ∷ [] };
+  settings = record { structure = structure.Fir; rounding = Nearest; accumulator = 32; word = 32; guards = 0 ∷ 4 ∷ 8 ∷ []; fractions = 14 ∷ 20 ∷ 26 ∷ []; lengths = 13 ∷ 16 ∷ [] };
   equations = record { rows = 1; inputs = 1; terms = record { row = 0; coef = record { num = negsuc 27197482964866294; den = Ten 19 }; from = In 0; lag = 0 } ∷ record { row = 0; coef = record { num = pos 15808536973328534; den = Ten 18 }; from = In 0; lag = 2 } ∷ record { row = 0; coef = record { num = pos 59408709991559901; den = Ten 18 }; from = In 0; lag = 3 } ∷ record { row = 0; coef = record { num = pos 12706862970416979; den = Ten 17 }; from = In 0; lag = 4 } ∷ record { row = 0; coef = record { num = pos 19141010953237059; den = Ten 17 }; from = In 0; lag = 5 } ∷ record { row = 0; coef = record { num = pos 21804752419011562; den = Ten 17 }; from = In 0; lag = 6 } ∷ record { row = 0; coef = record { num = pos 19141010953237059; den = Ten 17 }; from = In 0; lag = 7 } ∷ record { row = 0; coef = record { num = pos 12706862970416979; den = Ten 17 }; from = In 0; lag = 8 } ∷ record { row = 0; coef = record { num = pos 59408709991559901; den = Ten 18 }; from = In 0; lag = 9 } ∷ record { row = 0; coef = record { num = pos 15808536973328534; den = Ten 18 }; from = In 0; lag = 10 } ∷ record { row = 0; coef = record { num = negsuc 27197482964866294; den = Ten 19 }; from = In 0; lag = 12 } ∷ []; outputs = 0 ∷ [] };
 }
 
@@ -92,7 +93,7 @@ lattice4_filter = record {
   inputs = record { width = 16; bound = pos 12000 } ∷ [];
   outputs = record { row = 8; width = 16; low = pos 0; error = record { num = pos 3; den = Ten 0 }; target = pos 55340232221128654848 } ∷ [];
   coefficients = coefficients.Lattice (record { num = negsuc 90553314901352353; den = Ten 17 } ∷ record { num = pos 87452575888362697; den = Ten 17 } ∷ record { num = negsuc 63288866218612673; den = Ten 17 } ∷ record { num = pos 18737949236818492; den = Ten 17 } ∷ []) (record { num = pos 48833017209118986; den = Ten 18 } ∷ record { num = pos 11209451325686592; den = Ten 17 } ∷ record { num = pos 86950552367782329; den = Ten 18 } ∷ record { num = pos 30728717768085796; den = Ten 18 } ∷ record { num = pos 48243433577162304; den = Ten 19 } ∷ []);
-  settings = record { structure = structure.Lattice; accumulator = 64; word = 32; guards = 0 ∷ 4 ∷ 8 ∷ []; fractions = 14 ∷ 20 ∷ 26 ∷ []; lengths = 64 ∷ 256 ∷ 1024 ∷ 4096 ∷ [] };
+  settings = record { structure = structure.Lattice; rounding = Nearest; accumulator = 64; word = 32; guards = 0 ∷ 4 ∷ 8 ∷ []; fractions = 14 ∷ 20 ∷ 26 ∷ []; lengths = 64 ∷ 256 ∷ 1024 ∷ 4096 ∷ [] };
   equations = record { rows = 9; inputs = 1; terms = record { row = 0; coef = record { num = pos 1; den = Ten 0 }; from = In 0; lag = 0 } ∷ record { row = 0; coef = record { num = negsuc 18737949236818491; den = Ten 17 }; from = Row 6; lag = 1 } ∷ record { row = 1; coef = record { num = pos 1; den = Ten 0 }; from = Row 0; lag = 0 } ∷ record { row = 1; coef = record { num = pos 63288866218612674; den = Ten 17 }; from = Row 5; lag = 1 } ∷ record { row = 2; coef = record { num = pos 1; den = Ten 0 }; from = Row 1; lag = 0 } ∷ record { row = 2; coef = record { num = negsuc 87452575888362696; den = Ten 17 }; from = Row 4; lag = 1 } ∷ record { row = 3; coef = record { num = pos 1; den = Ten 0 }; from = Row 2; lag = 0 } ∷ record { row = 3; coef = record { num = pos 90553314901352354; den = Ten 17 }; from = Row 3; lag = 1 } ∷ record { row = 4; coef = record { num = negsuc 90553314901352353; den = Ten 17 }; from = Row 3; lag = 0 } ∷ record { row = 4; coef = record { num = pos 1; den = Ten 0 }; from = Row 3; lag = 1 } ∷ record { row = 5; coef = record { num = pos 87452575888362697; den = Ten 17 }; from = Row 2; lag = 0 } ∷ record { row = 5; coef = record { num = pos 1; den = Ten 0 }; from = Row 4; lag = 1 } ∷ record { row = 6; coef = record { num = negsuc 63288866218612673; den = Ten 17 }; from = Row 1; lag = 0 } ∷ record { row = 6; coef = record { num = pos 1; den = Ten 0 }; from = Row 5; lag = 1 } ∷ record { row = 7; coef = record { num = pos 18737949236818492; den = Ten 17 }; from = Row 0; lag = 0 } ∷ record { row = 7; coef = record { num = pos 1; den = Ten 0 }; from = Row 6; lag = 1 } ∷ record { row = 8; coef = record { num = pos 48833017209118986; den = Ten 18 }; from = Row 3; lag = 0 } ∷ record { row = 8; coef = record { num = pos 11209451325686592; den = Ten 17 }; from = Row 4; lag = 0 } ∷ record { row = 8; coef = record { num = pos 86950552367782329; den = Ten 18 }; from = Row 5; lag = 0 } ∷ record { row = 8; coef = record { num = pos 30728717768085796; den = Ten 18 }; from = Row 6; lag = 0 } ∷ record { row = 8; coef = record { num = pos 48243433577162304; den = Ten 19 }; from = Row 7; lag = 0 } ∷ []; outputs = 8 ∷ [] };
 }
 
@@ -112,7 +113,7 @@ lead_lag_filter = record {
   inputs = record { width = 14; bound = pos 4000 } ∷ [];
   outputs = record { row = 1; width = 16; low = pos 0; error = record { num = pos 3; den = Ten 0 }; target = pos 55340232221128654848 } ∷ [];
   coefficients = coefficients.Sos (record { num = pos 93333333333333333; den = Ten 16 } ∷ record { num = negsuc 91851851851851851; den = Ten 16 } ∷ record { num = pos 0; den = Ten 0 } ∷ record { num = pos 1; den = Ten 0 } ∷ record { num = negsuc 85185185185185184; den = Ten 17 } ∷ record { num = pos 0; den = Ten 0 } ∷ record { num = pos 25037481259370315; den = Ten 17 } ∷ record { num = negsuc 24937531234382808; den = Ten 17 } ∷ record { num = pos 0; den = Ten 0 } ∷ record { num = pos 1; den = Ten 0 } ∷ record { num = negsuc 99900049975012493; den = Ten 17 } ∷ record { num = pos 0; den = Ten 0 } ∷ []);
-  settings = record { structure = structure.Df1; accumulator = 64; word = 32; guards = 4 ∷ 8 ∷ 12 ∷ []; fractions = 14 ∷ 20 ∷ 26 ∷ []; lengths = 64 ∷ 256 ∷ 1024 ∷ 4096 ∷ [] };
+  settings = record { structure = structure.Df1; rounding = Nearest; accumulator = 64; word = 32; guards = 4 ∷ 8 ∷ 12 ∷ []; fractions = 14 ∷ 20 ∷ 26 ∷ []; lengths = 64 ∷ 256 ∷ 1024 ∷ 4096 ∷ [] };
   equations = record { rows = 2; inputs = 1; terms = record { row = 0; coef = record { num = pos 93333333333333333; den = Ten 16 }; from = In 0; lag = 0 } ∷ record { row = 0; coef = record { num = negsuc 91851851851851851; den = Ten 16 }; from = In 0; lag = 1 } ∷ record { row = 0; coef = record { num = pos 85185185185185185; den = Ten 17 }; from = Row 0; lag = 1 } ∷ record { row = 1; coef = record { num = pos 25037481259370315; den = Ten 17 }; from = Row 0; lag = 0 } ∷ record { row = 1; coef = record { num = negsuc 24937531234382808; den = Ten 17 }; from = Row 0; lag = 1 } ∷ record { row = 1; coef = record { num = pos 99900049975012494; den = Ten 17 }; from = Row 1; lag = 1 } ∷ []; outputs = 1 ∷ [] };
 }
 
@@ -132,7 +133,7 @@ low_pass_filter = record {
   inputs = record { width = 16; bound = pos 16384 } ∷ [];
   outputs = record { row = 0; width = 16; low = pos 0; error = record { num = pos 2; den = Ten 0 }; target = pos 36893488147419103232 } ∷ [];
   coefficients = coefficients.Tf (record { num = pos 39161266605473695; den = Ten 19 } ∷ record { num = pos 7832253321094739; den = Ten 18 } ∷ record { num = pos 39161266605473695; den = Ten 19 } ∷ []) (record { num = pos 1; den = Ten 0 } ∷ record { num = negsuc 18153410827045680; den = Ten 16 } ∷ record { num = pos 83100558934675755; den = Ten 17 } ∷ []);
-  settings = record { structure = structure.Df1; accumulator = 64; word = 32; guards = 0 ∷ 4 ∷ 8 ∷ []; fractions = 14 ∷ 20 ∷ 26 ∷ []; lengths = 64 ∷ 256 ∷ 1024 ∷ 4096 ∷ [] };
+  settings = record { structure = structure.Df1; rounding = Nearest; accumulator = 64; word = 32; guards = 0 ∷ 4 ∷ 8 ∷ []; fractions = 14 ∷ 20 ∷ 26 ∷ []; lengths = 64 ∷ 256 ∷ 1024 ∷ 4096 ∷ [] };
   equations = record { rows = 1; inputs = 1; terms = record { row = 0; coef = record { num = pos 39161266605473695; den = Ten 19 }; from = In 0; lag = 0 } ∷ record { row = 0; coef = record { num = pos 7832253321094739; den = Ten 18 }; from = In 0; lag = 1 } ∷ record { row = 0; coef = record { num = pos 39161266605473695; den = Ten 19 }; from = In 0; lag = 2 } ∷ record { row = 0; coef = record { num = pos 18153410827045681; den = Ten 16 }; from = Row 0; lag = 1 } ∷ record { row = 0; coef = record { num = negsuc 83100558934675754; den = Ten 17 }; from = Row 0; lag = 2 } ∷ []; outputs = 0 ∷ [] };
 }
 
@@ -152,7 +153,7 @@ moving_average_filter = record {
   inputs = record { width = 12; bound = pos 2047 } ∷ [];
   outputs = record { row = 0; width = 12; low = pos 0; error = record { num = pos 5; den = Ten 1 }; target = pos 9223372036854775808 } ∷ [];
   coefficients = coefficients.Tf (record { num = pos 125; den = Ten 3 } ∷ record { num = pos 125; den = Ten 3 } ∷ record { num = pos 125; den = Ten 3 } ∷ record { num = pos 125; den = Ten 3 } ∷ record { num = pos 125; den = Ten 3 } ∷ record { num = pos 125; den = Ten 3 } ∷ record { num = pos 125; den = Ten 3 } ∷ record { num = pos 125; den = Ten 3 } ∷ []) (record { num = pos 1; den = Ten 0 } ∷ []);
-  settings = record { structure = structure.Fir; accumulator = 16; word = 32; guards = 0 ∷ 4 ∷ 8 ∷ []; fractions = 14 ∷ 20 ∷ 26 ∷ []; lengths = 8 ∷ [] };
+  settings = record { structure = structure.Fir; rounding = Nearest; accumulator = 16; word = 32; guards = 0 ∷ 4 ∷ 8 ∷ []; fractions = 14 ∷ 20 ∷ 26 ∷ []; lengths = 8 ∷ [] };
   equations = record { rows = 1; inputs = 1; terms = record { row = 0; coef = record { num = pos 125; den = Ten 3 }; from = In 0; lag = 0 } ∷ record { row = 0; coef = record { num = pos 125; den = Ten 3 }; from = In 0; lag = 1 } ∷ record { row = 0; coef = record { num = pos 125; den = Ten 3 }; from = In 0; lag = 2 } ∷ record { row = 0; coef = record { num = pos 125; den = Ten 3 }; from = In 0; lag = 3 } ∷ record { row = 0; coef = record { num = pos 125; den = Ten 3 }; from = In 0; lag = 4 } ∷ record { row = 0; coef = record { num = pos 125; den = Ten 3 }; from = In 0; lag = 5 } ∷ record { row = 0; coef = record { num = pos 125; den = Ten 3 }; from = In 0; lag = 6 } ∷ record { row = 0; coef = record { num = pos 125; den = Ten 3 }; from = In 0; lag = 7 } ∷ []; outputs = 0 ∷ [] };
 }
 
@@ -172,7 +173,7 @@ notch_filter = record {
   inputs = record { width = 16; bound = pos 12000 } ∷ [];
   outputs = record { row = 0; width = 16; low = negsuc 7; error = record { num = pos 15; den = Ten 1 }; target = pos 27670116110564327424 } ∷ [];
   coefficients = coefficients.Tf (record { num = pos 98478424660038756; den = Ten 17 } ∷ record { num = negsuc 18731709497482240; den = Ten 16 } ∷ record { num = pos 98478424660038756; den = Ten 17 } ∷ []) (record { num = pos 1; den = Ten 0 } ∷ record { num = negsuc 18731709497482240; den = Ten 16 } ∷ record { num = pos 96956849320077512; den = Ten 17 } ∷ []);
-  settings = record { structure = structure.Df2t; accumulator = 32; word = 32; guards = 0 ∷ 4 ∷ 8 ∷ []; fractions = 14 ∷ 20 ∷ 26 ∷ []; lengths = 64 ∷ 256 ∷ 1024 ∷ 4096 ∷ [] };
+  settings = record { structure = structure.Df2t; rounding = Nearest; accumulator = 32; word = 32; guards = 0 ∷ 4 ∷ 8 ∷ []; fractions = 14 ∷ 20 ∷ 26 ∷ []; lengths = 64 ∷ 256 ∷ 1024 ∷ 4096 ∷ [] };
   equations = record { rows = 1; inputs = 1; terms = record { row = 0; coef = record { num = pos 98478424660038756; den = Ten 17 }; from = In 0; lag = 0 } ∷ record { row = 0; coef = record { num = negsuc 18731709497482240; den = Ten 16 }; from = In 0; lag = 1 } ∷ record { row = 0; coef = record { num = pos 98478424660038756; den = Ten 17 }; from = In 0; lag = 2 } ∷ record { row = 0; coef = record { num = pos 18731709497482241; den = Ten 16 }; from = Row 0; lag = 1 } ∷ record { row = 0; coef = record { num = negsuc 96956849320077511; den = Ten 17 }; from = Row 0; lag = 2 } ∷ []; outputs = 0 ∷ [] };
 }
 
@@ -192,7 +193,7 @@ peaking_equaliser_filter = record {
   inputs = record { width = 16; bound = pos 32767 } ∷ [];
   outputs = record { row = 0; width = 20; low = negsuc 1; error = record { num = pos 2; den = Ten 0 }; target = pos 36893488147419103232 } ∷ [];
   coefficients = coefficients.Sos (record { num = pos 10748072607706671; den = Ten 16 } ∷ record { num = negsuc 17515113564680518; den = Ten 16 } ∷ record { num = pos 77486601702644074; den = Ten 17 } ∷ record { num = pos 1; den = Ten 0 } ∷ record { num = negsuc 17515113564680518; den = Ten 16 } ∷ record { num = pos 84967327779710781; den = Ten 17 } ∷ []);
-  settings = record { structure = structure.Df2t; accumulator = 64; word = 32; guards = 0 ∷ 4 ∷ 8 ∷ []; fractions = 14 ∷ 20 ∷ 26 ∷ []; lengths = 64 ∷ 256 ∷ 1024 ∷ 4096 ∷ [] };
+  settings = record { structure = structure.Df2t; rounding = Nearest; accumulator = 64; word = 32; guards = 0 ∷ 4 ∷ 8 ∷ []; fractions = 14 ∷ 20 ∷ 26 ∷ []; lengths = 64 ∷ 256 ∷ 1024 ∷ 4096 ∷ [] };
   equations = record { rows = 1; inputs = 1; terms = record { row = 0; coef = record { num = pos 10748072607706671; den = Ten 16 }; from = In 0; lag = 0 } ∷ record { row = 0; coef = record { num = negsuc 17515113564680518; den = Ten 16 }; from = In 0; lag = 1 } ∷ record { row = 0; coef = record { num = pos 77486601702644074; den = Ten 17 }; from = In 0; lag = 2 } ∷ record { row = 0; coef = record { num = pos 17515113564680519; den = Ten 16 }; from = Row 0; lag = 1 } ∷ record { row = 0; coef = record { num = negsuc 84967327779710780; den = Ten 17 }; from = Row 0; lag = 2 } ∷ []; outputs = 0 ∷ [] };
 }
 
@@ -212,7 +213,7 @@ two_masses_filter = record {
   inputs = record { width = 12; bound = pos 256 } ∷ record { width = 12; bound = pos 256 } ∷ [];
   outputs = record { row = 4; width = 20; low = negsuc 7; error = record { num = pos 4; den = Ten 0 }; target = pos 73786976294838206464 } ∷ record { row = 5; width = 20; low = negsuc 7; error = record { num = pos 4; den = Ten 0 }; target = pos 73786976294838206464 } ∷ [];
   coefficients = coefficients.Ss 4 (record { num = pos 98758139935901399; den = Ten 17 } ∷ record { num = pos 18961365749011179; den = Ten 18 } ∷ record { num = pos 46931539427885035; den = Ten 19 } ∷ record { num = pos 40725772274287582; den = Ten 20 } ∷ record { num = negsuc 12121258875485827; den = Ten 16 } ∷ record { num = pos 8944036015049296; den = Ten 16 } ∷ record { num = pos 45367125758813567; den = Ten 17 } ∷ record { num = pos 40986854549839357; den = Ten 18 } ∷ record { num = pos 93735857226490888; den = Ten 19 } ∷ record { num = pos 81451544548575163; den = Ten 20 } ∷ record { num = pos 99041001388761501; den = Ten 17 } ∷ record { num = pos 19168175151114596; den = Ten 18 } ∷ record { num = pos 90546525359915595; den = Ten 17 } ∷ record { num = pos 81973709099678715; den = Ten 18 } ∷ record { num = negsuc 93804587141858600; den = Ten 17 } ∷ record { num = pos 91536634417412813; den = Ten 17 } ∷ []) (record { num = pos 19313616745493765; den = Ten 18 } ∷ record { num = pos 54100097433975107; den = Ten 20 } ∷ record { num = pos 18961365749011179; den = Ten 16 } ∷ record { num = pos 81451544548575163; den = Ten 18 } ∷ record { num = pos 54100097433975107; den = Ten 20 } ∷ record { num = pos 38900945423879708; den = Ten 18 } ∷ record { num = pos 81451544548575163; den = Ten 18 } ∷ record { num = pos 38336350302229192; den = Ten 16 } ∷ []) (record { num = pos 1; den = Ten 0 } ∷ record { num = pos 0; den = Ten 0 } ∷ record { num = pos 0; den = Ten 0 } ∷ record { num = pos 0; den = Ten 0 } ∷ record { num = pos 0; den = Ten 0 } ∷ record { num = pos 0; den = Ten 0 } ∷ record { num = pos 1; den = Ten 0 } ∷ record { num = pos 0; den = Ten 0 } ∷ []) (record { num = pos 0; den = Ten 0 } ∷ record { num = pos 0; den = Ten 0 } ∷ record { num = pos 0; den = Ten 0 } ∷ record { num = pos 0; den = Ten 0 } ∷ []);
-  settings = record { structure = structure.Ss; accumulator = 64; word = 32; guards = 4 ∷ 8 ∷ 12 ∷ []; fractions = 14 ∷ 20 ∷ 26 ∷ []; lengths = 256 ∷ 1024 ∷ [] };
+  settings = record { structure = structure.Ss; rounding = Nearest; accumulator = 64; word = 32; guards = 4 ∷ 8 ∷ 12 ∷ []; fractions = 14 ∷ 20 ∷ 26 ∷ []; lengths = 256 ∷ 1024 ∷ [] };
   equations = record { rows = 6; inputs = 2; terms = record { row = 0; coef = record { num = pos 98758139935901399; den = Ten 17 }; from = Row 0; lag = 1 } ∷ record { row = 0; coef = record { num = pos 18961365749011179; den = Ten 18 }; from = Row 1; lag = 1 } ∷ record { row = 0; coef = record { num = pos 46931539427885035; den = Ten 19 }; from = Row 2; lag = 1 } ∷ record { row = 0; coef = record { num = pos 40725772274287582; den = Ten 20 }; from = Row 3; lag = 1 } ∷ record { row = 0; coef = record { num = pos 19313616745493765; den = Ten 18 }; from = In 0; lag = 0 } ∷ record { row = 0; coef = record { num = pos 54100097433975107; den = Ten 20 }; from = In 1; lag = 0 } ∷ record { row = 1; coef = record { num = negsuc 12121258875485827; den = Ten 16 }; from = Row 0; lag = 1 } ∷ record { row = 1; coef = record { num = pos 8944036015049296; den = Ten 16 }; from = Row 1; lag = 1 } ∷ record { row = 1; coef = record { num = pos 45367125758813567; den = Ten 17 }; from = Row 2; lag = 1 } ∷ record { row = 1; coef = record { num = pos 40986854549839357; den = Ten 18 }; from = Row 3; lag = 1 } ∷ record { row = 1; coef = record { num = pos 18961365749011179; den = Ten 16 }; from = In 0; lag = 0 } ∷ record { row = 1; coef = record { num = pos 81451544548575163; den = Ten 18 }; from = In 1; lag = 0 } ∷ record { row = 2; coef = record { num = pos 93735857226490888; den = Ten 19 }; from = Row 0; lag = 1 } ∷ record { row = 2; coef = record { num = pos 81451544548575163; den = Ten 20 }; from = Row 1; lag = 1 } ∷ record { row = 2; coef = record { num = pos 99041001388761501; den = Ten 17 }; from = Row 2; lag = 1 } ∷ record { row = 2; coef = record { num = pos 19168175151114596; den = Ten 18 }; from = Row 3; lag = 1 } ∷ record { row = 2; coef = record { num = pos 54100097433975107; den = Ten 20 }; from = In 0; lag = 0 } ∷ record { row = 2; coef = record { num = pos 38900945423879708; den = Ten 18 }; from = In 1; lag = 0 } ∷ record { row = 3; coef = record { num = pos 90546525359915595; den = Ten 17 }; from = Row 0; lag = 1 } ∷ record { row = 3; coef = record { num = pos 81973709099678715; den = Ten 18 }; from = Row 1; lag = 1 } ∷ record { row = 3; coef = record { num = negsuc 93804587141858600; den = Ten 17 }; from = Row 2; lag = 1 } ∷ record { row = 3; coef = record { num = pos 91536634417412813; den = Ten 17 }; from = Row 3; lag = 1 } ∷ record { row = 3; coef = record { num = pos 81451544548575163; den = Ten 18 }; from = In 0; lag = 0 } ∷ record { row = 3; coef = record { num = pos 38336350302229192; den = Ten 16 }; from = In 1; lag = 0 } ∷ record { row = 4; coef = record { num = pos 1; den = Ten 0 }; from = Row 0; lag = 1 } ∷ record { row = 5; coef = record { num = pos 1; den = Ten 0 }; from = Row 2; lag = 1 } ∷ []; outputs = 4 ∷ 5 ∷ [] };
 }
 

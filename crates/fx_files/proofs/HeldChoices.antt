@@ -9,18 +9,23 @@ use Rattle.std.specs.Str.{bytes_eq}
 use Rattle.std.proofs.lemmas.Bool.{cases_Bool}
 use Rattle.std.proofs.lemmas.Slice.Eq.{bytes_eq-Decides}
 use Rattle.toml.specs.Data.{Data, Members, as_str}
-use Rattle.fx_math.specs.Faults.{or_fault, unless}
+use Rattle.fx_math.specs.Faults.{unless}
 use Rattle.fx_math.specs.Words.{is_accumulator}
-use Rattle.fx_files.specs.Settings.{Settings, structure_at, structure_in, is_listed, accumulator_in, settings_in}
+use Rattle.fx_eqs.specs.declared.mode.Mode.{Mode}
+use Rattle.fx_eqs.specs.declared.mode.Mode.TheVariants as mode
+use Rattle.fx_files.specs.Settings.{Settings, structure_in, mode_in, is_listed, accumulator_in, settings_in}
 use Rattle.fx_files.specs.Describes.{DescribesSettings, HoldsForm}
 use Rattle.fx_files.specs.Head.{form_in, head_in}
-use Rattle.fx_files.specs.Holds.{value_at, HasOnly}
+use Rattle.fx_files.specs.Holds.{value_at, HasOnly, IsWordOf}
 use Rattle.fx_files.specs.Holds.{HoldsInteger}
 use Rattle.fx_keys.specs.Keys.{range_of, default_of}
-use Rattle.fx_files.specs.Forms.{form_text, form_word, structure_text, structure_word, default_structure, known_keys}
+use Rattle.fx_files.specs.Forms.{form_text, form_word, structure_text, structure_word, mode_text, mode_word}
+use Rattle.fx_files.specs.Forms.{default_structure, known_keys}
 use Rattle.fx_files.specs.Coefficients as coefficients
 use Rattle.fx_keys.specs.Table.{needed, only_keys}
 use Rattle.fx_keys.specs.Wholes.{integer_or, natural_in, naturals_in}
+use Rattle.fx_keys.specs.Words.{text_at, word_at}
+use Rattle.fx_keys.specs.declared.key.Key.{Key}
 use Rattle.fx_keys.specs.declared.fault.FilterFault.TheVariants.{Missing, WrongKind}
 use Rattle.fx_keys.specs.declared.fault.FilterFault.TheVariants.{UnknownWord, Limit}
 use Rattle.fx_keys.specs.declared.key.Key.TheVariants as key
@@ -38,49 +43,46 @@ use Rattle.fx_files.proofs.HeldTables.{only_read, only_stands}
 named : (text word : List ℕ) → bytes_eq text word ≡ true → text ≡ word
 named text word h = (bytes_eq-Decides text word).0 h
 
-pub form_is : (text : List ℕ) (f g : Form) → ◌≡◌ {A = Option Form} (Some f) (Some g) → text ≡ form_text f →
-    text ≡ form_text g
-form_is text f g same h = let e : f ≡ g = cc in subst (λ (x : Form). text ≡ form_text x) e h
+-- a text that spells what a value is, spells the value
+pub spelled_so : {A : Type 0} (spelled : A → List ℕ) (text : List ℕ) (x y : A) →
+    ◌≡◌ {A = Option A} (Some x) (Some y) → text ≡ spelled x → text ≡ spelled y
+spelled_so {A} spelled text x y same h = let e : x ≡ y = cc in subst (λ (z : A). text ≡ spelled z) e h
 
-form_read : (text : List ℕ) (f : Form) → form_word text ≡ Some f → text ≡ form_text f
+pub form_read : (text : List ℕ) (f : Form) → form_word text ≡ Some f → text ≡ form_text f
 form_read text f h = elim (cases_Bool (bytes_eq text (codes "tf"))) [
-  | inl is ↦ form_is text form.Tf f (rw is at h) (named text (codes "tf") is)
+  | inl is ↦ spelled_so form_text text form.Tf f (rw is at h) (named text (codes "tf") is)
   | inr n1 ↦ elim (cases_Bool (bytes_eq text (codes "sos"))) [
-    | inl is ↦ form_is text form.Sos f (rw (n1, is) at h) (named text (codes "sos") is)
+    | inl is ↦ spelled_so form_text text form.Sos f (rw (n1, is) at h) (named text (codes "sos") is)
     | inr n2 ↦ elim (cases_Bool (bytes_eq text (codes "ss"))) [
-      | inl is ↦ form_is text form.Ss f (rw (n1, n2, is) at h) (named text (codes "ss") is)
+      | inl is ↦ spelled_so form_text text form.Ss f (rw (n1, n2, is) at h) (named text (codes "ss") is)
       | inr n3 ↦ elim (cases_Bool (bytes_eq text (codes "lattice"))) [
-        | inl is ↦ form_is text form.Lattice f (rw (n1, n2, n3, is) at h) (named text (codes "lattice") is)
+        | inl is ↦ spelled_so form_text text form.Lattice f (rw (n1, n2, n3, is) at h) (named text (codes "lattice") is)
         | inr n4 ↦ absurd (let e : ◌≡◌ {A = Option Form} None (Some f) = rw (n1, n2, n3, n4) at h in cc)
       ]
     ]
   ]
 ]
 
-form_stands : (text : List ℕ) (f : Form) → text ≡ form_text f → form_word text ≡ Some f
-form_stands text form.Tf h = rw h refl
-form_stands text form.Sos h = rw h refl
-form_stands text form.Ss h = rw h refl
-form_stands text form.Lattice h = rw h refl
-
-structure_is : (text : List ℕ) (f g : Structure) → ◌≡◌ {A = Option Structure} (Some f) (Some g) →
-    text ≡ structure_text f → text ≡ structure_text g
-structure_is text f g same h = let e : f ≡ g = cc in subst (λ (x : Structure). text ≡ structure_text x) e h
+form_says : (f : Form) → form_word (form_text f) ≡ Some f
+form_says form.Tf = refl
+form_says form.Sos = refl
+form_says form.Ss = refl
+form_says form.Lattice = refl
 
 structure_read : (text : List ℕ) (f : Structure) → structure_word text ≡ Some f → text ≡ structure_text f
 structure_read text f h = elim (cases_Bool (bytes_eq text (codes "df1"))) [
-  | inl is ↦ structure_is text structure.Df1 f (rw is at h) (named text (codes "df1") is)
+  | inl is ↦ spelled_so structure_text text structure.Df1 f (rw is at h) (named text (codes "df1") is)
   | inr n1 ↦ elim (cases_Bool (bytes_eq text (codes "df2"))) [
-    | inl is ↦ structure_is text structure.Df2 f (rw (n1, is) at h) (named text (codes "df2") is)
+    | inl is ↦ spelled_so structure_text text structure.Df2 f (rw (n1, is) at h) (named text (codes "df2") is)
     | inr n2 ↦ elim (cases_Bool (bytes_eq text (codes "df2t"))) [
-      | inl is ↦ structure_is text structure.Df2t f (rw (n1, n2, is) at h) (named text (codes "df2t") is)
+      | inl is ↦ spelled_so structure_text text structure.Df2t f (rw (n1, n2, is) at h) (named text (codes "df2t") is)
       | inr n3 ↦ elim (cases_Bool (bytes_eq text (codes "fir"))) [
-        | inl is ↦ structure_is text structure.Fir f (rw (n1, n2, n3, is) at h) (named text (codes "fir") is)
+        | inl is ↦ spelled_so structure_text text structure.Fir f (rw (n1, n2, n3, is) at h) (named text (codes "fir") is)
         | inr n4 ↦ elim (cases_Bool (bytes_eq text (codes "lattice"))) [
-          | inl is ↦ structure_is text structure.Lattice f (rw (n1, n2, n3, n4, is) at h)
+          | inl is ↦ spelled_so structure_text text structure.Lattice f (rw (n1, n2, n3, n4, is) at h)
               (named text (codes "lattice") is)
           | inr n5 ↦ elim (cases_Bool (bytes_eq text (codes "ss"))) [
-            | inl is ↦ structure_is text structure.Ss f (rw (n1, n2, n3, n4, n5, is) at h) (named text (codes "ss") is)
+            | inl is ↦ spelled_so structure_text text structure.Ss f (rw (n1, n2, n3, n4, n5, is) at h) (named text (codes "ss") is)
             | inr n6 ↦ absurd (let e : ◌≡◌ {A = Option Structure} None (Some f) =
                 rw (n1, n2, n3, n4, n5, n6) at h in cc)
           ]
@@ -90,13 +92,54 @@ structure_read text f h = elim (cases_Bool (bytes_eq text (codes "df1"))) [
   ]
 ]
 
-structure_stands : (text : List ℕ) (f : Structure) → text ≡ structure_text f → structure_word text ≡ Some f
-structure_stands text structure.Df1 h = rw h refl
-structure_stands text structure.Df2 h = rw h refl
-structure_stands text structure.Df2t h = rw h refl
-structure_stands text structure.Fir h = rw h refl
-structure_stands text structure.Lattice h = rw h refl
-structure_stands text structure.Ss h = rw h refl
+structure_says : (s : Structure) → structure_word (structure_text s) ≡ Some s
+structure_says structure.Df1 = refl
+structure_says structure.Df2 = refl
+structure_says structure.Df2t = refl
+structure_says structure.Fir = refl
+structure_says structure.Lattice = refl
+structure_says structure.Ss = refl
+
+mode_read : (text : List ℕ) (m : Mode) → mode_word text ≡ Some m → text ≡ mode_text m
+mode_read text m h = elim (cases_Bool (bytes_eq text (codes "nearest"))) [
+  | inl is ↦ spelled_so mode_text text mode.Nearest m (rw is at h) (named text (codes "nearest") is)
+  | inr n1 ↦ elim (cases_Bool (bytes_eq text (codes "floor"))) [
+    | inl is ↦ spelled_so mode_text text mode.Floor m (rw (n1, is) at h) (named text (codes "floor") is)
+    | inr n2 ↦ absurd (let e : ◌≡◌ {A = Option Mode} None (Some m) = rw (n1, n2) at h in cc)
+  ]
+]
+
+mode_says : (m : Mode) → mode_word (mode_text m) ≡ Some m
+mode_says mode.Nearest = refl
+mode_says mode.Floor = refl
+
+-- ---- a word at a key
+
+pub word_read : {A : Type 0} (k : Key) (spelled : A → List ℕ) (meaning : List ℕ → Option A) (v : Data) (x : A) →
+    ((text : List ℕ) (y : A) → meaning text ≡ Some y → text ≡ spelled y) →
+    word_at k meaning v ≡ Ok x → IsWordOf spelled x v
+word_read k spelled meaning v x means h =
+    let (text, there, past_there) = bind_ok (text_at k v) _ x h in
+    let so : text ≡ spelled x = means text x (fault_ok (UnknownWord k) (meaning text) x past_there) in
+    fault_ok (WrongKind k) (as_str v) text there ∙ ap (λ (w : List ℕ). Some w) so
+
+word_stands : {A : Type 0} (k : Key) (spelled : A → List ℕ) (meaning : List ℕ → Option A) (v : Data) (x : A) →
+    ((y : A) → meaning (spelled y) ≡ Some y) → IsWordOf spelled x v → word_at k meaning v ≡ Ok x
+word_stands k spelled meaning v x says h =
+    rw (ok_stands (WrongKind k) (as_str v) (spelled x) h, says x) refl
+
+-- with a default where there is no value
+choice_read : {A : Type 0} (k : Key) (spelled : A → List ℕ) (meaning : List ℕ → Option A) (default : A)
+    (o : Option Data) (x : A) → ((text : List ℕ) (y : A) → meaning text ≡ Some y → text ≡ spelled y) →
+    option_map_or (word_at k meaning) o (Ok default) ≡ Ok x → MatchOption o (x ≡ default) (IsWordOf spelled x)
+choice_read k spelled meaning default None x means h = sym (same_ok default x h)
+choice_read k spelled meaning default (Some v) x means h = word_read k spelled meaning v x means h
+
+choice_stands : {A : Type 0} (k : Key) (spelled : A → List ℕ) (meaning : List ℕ → Option A) (default : A)
+    (o : Option Data) (x : A) → ((y : A) → meaning (spelled y) ≡ Some y) →
+    MatchOption o (x ≡ default) (IsWordOf spelled x) → option_map_or (word_at k meaning) o (Ok default) ≡ Ok x
+choice_stands {A} k spelled meaning default None x says h = ap (λ (y : A). Ok y) (sym h)
+choice_stands k spelled meaning default (Some v) x says h = word_stands k spelled meaning v x says h
 
 -- ---- the form and the known keys
 
@@ -106,46 +149,24 @@ head_read t form h =
     let (f, got, past_got) = bind_ok (form_in t) _ form h in
     let (u, keys, same) = bind_ok (only_keys (known_keys f) t) _ form past_got in
     let (v, there, g1) = bind_ok (needed key.Form t) _ f got in
-    let (w, text, g2) = bind_ok (or_fault (WrongKind key.Form) (as_str v)) _ f g1 in
-    let named_so : w ≡ form_text f = form_read w f (fault_ok (UnknownWord key.Form) (form_word w) f g2) in
     subst (λ (x : Form). HoldsForm t x × HasOnly (known_keys x) t) (same_ok f form same) (
-      and_some (value_at key.Form t) (λ v. as_str v ≡ Some (form_text f)) v
+      and_some (value_at key.Form t) (IsWordOf form_text f) v
           (fault_ok (Missing key.Form) (value_at key.Form t) v there)
-          (fault_ok (WrongKind key.Form) (as_str v) w text ∙ ap (λ (x : List ℕ). Some x) named_so),
+          (word_read key.Form form_text form_word v f form_read g1),
       only_read (known_keys f) t u keys,
     )
 
 pub head_stands : (t : Members) (form : Form) → HoldsForm t form → HasOnly (known_keys form) t → head_in t ≡ Ok form
 unfolding head_in
 head_stands t form h keys =
-    let (v, there, text) = some_and (value_at key.Form t) (λ v. as_str v ≡ Some (form_text form)) h in
+    let (v, there, text) = some_and (value_at key.Form t) (IsWordOf form_text form) h in
     rw (
       ok_stands (Missing key.Form) (value_at key.Form t) v there,
-      ok_stands (WrongKind key.Form) (as_str v) (form_text form) text,
-      form_stands (form_text form) form refl,
+      word_stands key.Form form_text form_word v form form_says text,
       only_stands (known_keys form) t keys,
     ) refl
 
 -- ---- settings
-
-structure_here : (form : Form) (o : Option Data) (s : Structure) →
-    option_map_or structure_at o (Ok (default_structure form)) ≡ Ok s →
-    MatchOption o (s ≡ default_structure form) (λ v. as_str v ≡ Some (structure_text s))
-structure_here form None s h = sym (same_ok (default_structure form) s h)
-structure_here form (Some v) s h =
-    let (w, text, past_text) = bind_ok (or_fault (WrongKind key.Structure) (as_str v)) _ s h in
-    let named_so = structure_read w s (fault_ok (UnknownWord key.Structure) (structure_word w) s past_text) in
-    fault_ok (WrongKind key.Structure) (as_str v) w text ∙ ap (λ (x : List ℕ). Some x) named_so
-
-here_structure : (form : Form) (o : Option Data) (s : Structure) →
-    MatchOption o (s ≡ default_structure form) (λ v. as_str v ≡ Some (structure_text s)) →
-    option_map_or structure_at o (Ok (default_structure form)) ≡ Ok s
-here_structure form None s h = ap (λ (x : Structure). Ok x) (sym h)
-here_structure form (Some v) s h =
-    rw (
-      ok_stands (WrongKind key.Structure) (as_str v) (structure_text s) h,
-      structure_stands (structure_text s) s refl,
-    ) refl
 
 listed_is : (z : ℤ) → is_listed z ≡ true → (n : ℕ) × (z ≡ pos n) × (is_accumulator n ≡ true)
 listed_is (pos n) h = (n, refl, h)
@@ -176,7 +197,8 @@ pub settings_read : (form : Form) (t : Members) (s : Settings) → settings_in f
 unfolding settings_in
 settings_read form t s h =
     let (structure, named_so, past_named_so) = bind_ok (structure_in form t) _ s h in
-    let (accumulator, bits, past_bits) = bind_ok (accumulator_in t) _ s past_named_so in
+    let (rounding, rounded, past_rounded) = bind_ok (mode_in t) _ s past_named_so in
+    let (accumulator, bits, past_bits) = bind_ok (accumulator_in t) _ s past_rounded in
     let (word, wide, past_wide) = bind_ok (natural_in key.Word t) _ s past_bits in
     let (guards, guard, past_guard) = bind_ok (naturals_in key.Guards t) _ s past_wide in
     let (fractions, fraction, past_fraction) = bind_ok (naturals_in key.Fractions t) _ s past_guard in
@@ -184,7 +206,11 @@ settings_read form t s h =
     let a = accumulator_read t accumulator bits in
     subst (DescribesSettings form t) (same_ok _ s same)
     (record {
-      structure = structure_here form (value_at key.Structure t) structure named_so;
+      structure =
+          choice_read key.Structure structure_text structure_word (default_structure form)
+          (value_at key.Structure t) structure structure_read named_so;
+      rounding =
+          choice_read key.Rounding mode_text mode_word mode.Nearest (value_at key.Rounding t) rounding mode_read rounded;
       accumulator = a.0;
       is_listed = a.1;
       word = natural_read key.Word t word (record { le = tt }) wide;
@@ -197,7 +223,10 @@ pub settings_stand : (form : Form) (t : Members) (s : Settings) → DescribesSet
 unfolding settings_in
 settings_stand form t s h =
     rw (
-      here_structure form (value_at key.Structure t) s.structure h.structure,
+      choice_stands key.Structure structure_text structure_word (default_structure form)
+          (value_at key.Structure t) s.structure structure_says h.structure,
+      choice_stands key.Rounding mode_text mode_word mode.Nearest
+          (value_at key.Rounding t) s.rounding mode_says h.rounding,
       accumulator_stands t s.accumulator h.accumulator h.is_listed,
       natural_stands key.Word t s.word h.word,
       naturals_stand key.Guards t s.guards h.guards,

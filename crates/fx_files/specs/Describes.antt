@@ -1,16 +1,18 @@
 -- Which filter a table describes.
 use Rattle.std.specs.Prelude.{◌≡◌, ◌↔◌, ◌≤◌, ℕ, ◌+◌, ℤ, pos, ◌-ℤ◌, ◌≤ℤ◌, true, List, [], ◌∷◌, length}
-use Rattle.std.specs.Prelude.{get_or, map, All, Some, IsSomeAnd, MatchOption, Ok}
+use Rattle.std.specs.Prelude.{get_or, map, All, Some, IsSomeAnd, Ok}
 use Rattle.std.specs.Str.{is_utf8}
-use Rattle.toml.specs.Data.{Members, as_str}
+use Rattle.toml.specs.Data.{Members}
 use Rattle.toml.specs.Parse.{parse_document}
 use Rattle.fx_math.specs.Words.{is_accumulator}
+use Rattle.fx_eqs.specs.declared.mode.Mode.TheVariants.{Nearest}
 use Rattle.fx_nums.specs.Fraction.{Fraction, zero_fraction, is_one}
 use Rattle.fx_keys.specs.Keys.{IsWithin, range_of, most_of, default_of}
 use Rattle.fx_keys.specs.declared.key.Key.{Key}
 use Rattle.fx_keys.specs.declared.key.Key.TheVariants as key
 use Rattle.fx_keys.specs.declared.limits.TheConstants.{LOWS, LOW_DIFFERENCES, SECTION_COEFFICIENTS}
-use Rattle.fx_files.specs.Holds.{value_at, HasOnly, CountFits, HoldsTables, HoldsInteger, HoldsWhole}
+use Rattle.fx_files.specs.Holds.{value_at, HasOnly, CountFits, HoldsTables, IsWordOf, HoldsWord}
+use Rattle.fx_files.specs.Holds.{HoldsInteger, HoldsWhole}
 use Rattle.fx_files.specs.Holds.{HoldsNatural, HoldsNaturals, IsNumeralOf, HoldsNumerals, HoldsRows, AreWide}
 use Rattle.fx_files.specs.Holds.{row_after_row, HoldsMatrix}
 use Rattle.fx_files.specs.Building.{equations_of, target_of}
@@ -18,14 +20,13 @@ use Rattle.fx_files.specs.Coefficients as coefficients
 use Rattle.fx_files.specs.Coefficients.{Coefficients, form_of}
 use Rattle.fx_files.specs.Filter.{Filter}
 use Rattle.fx_files.specs.Fits.{CountsFit}
-use Rattle.fx_files.specs.Forms.{known_keys, form_text, structure_text, default_structure}
+use Rattle.fx_files.specs.Forms.{known_keys, form_text, structure_text, mode_text, default_structure}
 use Rattle.fx_files.specs.Settings.{Settings}
 use Rattle.fx_files.specs.Ports.{bounds_of, top_word}
 use Rattle.fx_files.specs.Reading.{filter_of_bytes}
 use Rattle.fx_files.specs.declared.formats.InputFormat.{InputFormat}
 use Rattle.fx_files.specs.declared.formats.OutputFormat.{OutputFormat}
 use Rattle.fx_files.specs.declared.forms.Form.{Form}
-use Rattle.fx_files.specs.declared.forms.Structure.{Structure}
 
 -- ---- inputs and outputs
 
@@ -96,14 +97,9 @@ DescribesCoefficients m p t (coefficients.Lattice k v) = DescribesLattice t k v
 
 -- ---- what is to be tried in making code
 
--- the structure named, or that of the form where the table names none
-abbrev pub HoldsStructure : Form → Members → Structure → Type 0
-HoldsStructure form t s =
-    MatchOption (value_at key.Structure t) (s ≡ default_structure form) (λ v.
-    as_str v ≡ Some (structure_text s))
-
 pub record DescribesSettings (form : Form) (t : Members) (s : Settings) : Type 0 where
-  pub structure : HoldsStructure form t s.structure
+  pub structure : HoldsWord key.Structure structure_text (default_structure form) t s.structure
+  pub rounding : HoldsWord key.Rounding mode_text Nearest t s.rounding
   pub accumulator : HoldsInteger key.Accumulator (default_of key.Accumulator) t (pos s.accumulator)
   pub is_listed : is_accumulator s.accumulator ≡ true
   pub word : HoldsNatural key.Word t s.word
@@ -115,7 +111,7 @@ pub record DescribesSettings (form : Form) (t : Members) (s : Settings) : Type 0
 
 -- the form named
 abbrev pub HoldsForm : Members → Form → Type 0
-HoldsForm t form = IsSomeAnd (value_at key.Form t) (λ v. as_str v ≡ Some (form_text form))
+HoldsForm t form = IsSomeAnd (value_at key.Form t) (IsWordOf form_text form)
 
 -- what the keys hold, which keys there are, and the table of equations: the textbook system of the form on these
 -- coefficients, whose rows are put out in the order of the outputs

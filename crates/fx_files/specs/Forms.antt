@@ -1,6 +1,8 @@
 -- The keys of each form, and the words of a filter file, as it spells them.
 use Rattle.std.specs.Prelude.{ℕ, List, [], ◌∷◌, ◌++◌, codes, Option, Some, None, if◌then◌else◌}
 use Rattle.std.specs.Str.{bytes_eq}
+use Rattle.fx_eqs.specs.declared.mode.Mode.{Mode}
+use Rattle.fx_eqs.specs.declared.mode.Mode.TheVariants as mode
 use Rattle.fx_keys.specs.declared.key.Key.{Key}
 use Rattle.fx_keys.specs.declared.key.Key.TheVariants as key
 use Rattle.fx_files.specs.declared.forms.Form.{Form}
@@ -11,8 +13,8 @@ use Rattle.fx_files.specs.declared.forms.Structure.TheVariants as structure
 -- the keys that files of each form may have
 abbrev pub shared_keys : List Key
 shared_keys =
-    key.Form ∷ key.InputLow ∷ key.Inputs ∷ key.Outputs ∷ key.Structure ∷ key.Accumulator ∷ key.Word ∷ key.Guards
-    ∷ key.Fractions ∷ key.Lengths ∷ []
+    key.Form ∷ key.InputLow ∷ key.Inputs ∷ key.Outputs ∷ key.Structure ∷ key.Rounding ∷ key.Accumulator ∷ key.Word
+    ∷ key.Guards ∷ key.Fractions ∷ key.Lengths ∷ []
 
 -- the keys of the coefficients
 abbrev pub own_keys : Form → List Key
@@ -52,6 +54,15 @@ structure_word w =
     else if bytes_eq w (codes "df2t") then Some structure.Df2t else if bytes_eq w (codes "fir") then Some structure.Fir
     else if bytes_eq w (codes "lattice") then Some structure.Lattice else if bytes_eq w (codes "ss") then Some
     structure.Ss else None
+
+abbrev pub mode_text : Mode → List ℕ
+mode_text mode.Nearest = codes "nearest"
+mode_text mode.Floor = codes "floor"
+
+abbrev pub mode_word : List ℕ → Option Mode
+mode_word w =
+    if bytes_eq w (codes "nearest") then Some mode.Nearest else if bytes_eq w (codes "floor") then Some mode.Floor
+    else None
 
 -- the structure where a file names none
 abbrev pub default_structure : Form → Structure

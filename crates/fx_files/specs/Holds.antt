@@ -1,7 +1,7 @@
 -- What a table holds at a key.
 use Rattle.std.specs.Prelude.{◌≡◌, ◌≤◌, ℕ, ℤ, pos, true, List, [], ◌∷◌, length, flat_map, All, Option}
 use Rattle.std.specs.Prelude.{Some, IsSome, IsSomeAnd, MatchOption, Ok, ⊤}
-use Rattle.toml.specs.Data.{Data, Members, Items, no_items, item, get_member, as_integer, as_array, as_table}
+use Rattle.toml.specs.Data.{Data, Members, Items, no_items, item, get_member, as_str, as_integer, as_array, as_table}
 use Rattle.fx_nums.specs.Fraction.{Fraction}
 use Rattle.fx_decimal.specs.Faults.{Means}
 use Rattle.fx_keys.specs.Keys.{IsWithin, own_name, range_of, most_of, default_of, default_list_of}
@@ -44,6 +44,16 @@ pub record HoldsTables {A : Type 0} (k : Key) (describes : Members → A →
     Type 0) (t : Members) (xs : List A) : Type 0 where
   pub held : IsSomeAnd (value_at k t) (IsListOf (IsTableOf describes) xs)
   pub count : CountFits k (length xs)
+
+-- ---- words
+
+-- the value is the text of a word
+abbrev pub IsWordOf : {A : Type 0} → (A → List ℕ) → A → Data → Type 0
+IsWordOf spelled x v = as_str v ≡ Some (spelled x)
+
+-- the word at the key, or the default where the key is absent
+abbrev pub HoldsWord : {A : Type 0} → Key → (A → List ℕ) → A → Members → A → Type 0
+HoldsWord k spelled default t x = MatchOption (value_at k t) (x ≡ default) (IsWordOf spelled x)
 
 -- ---- whole numbers
 

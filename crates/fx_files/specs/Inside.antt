@@ -50,6 +50,7 @@ ports_view p = record { inputs = inputs_view p.inputs; outputs = p.outputs.items
 abbrev pub settings_view : Settings → SettingsValue
 settings_view s = record {
   structure = s.structure;
+  rounding = s.rounding;
   accumulator = s.accumulator;
   word = s.word;
   guards = s.guards.items;

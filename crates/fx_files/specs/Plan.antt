@@ -2,6 +2,7 @@
 use Rattle.std.specs.Prelude.{◌≡◌, ◌<◌, ℕ, List, [], ◌∷◌, length, get_or, map, All}
 use Rattle.toml.specs.Data.{Members}
 use Rattle.fx_math.specs.Ratio.{SameValue}
+use Rattle.fx_eqs.specs.declared.mode.Mode.TheVariants.{Nearest}
 use Rattle.fx_nums.specs.Fraction.{Fraction, OverTen, value_of, zero_fraction}
 use Rattle.fx_files.specs.Building.{assembled, equations_of}
 use Rattle.fx_files.specs.Coefficients.{Sos}
@@ -25,10 +26,11 @@ abbrev pub ports_of : Plan → Ports
 ports_of p =
     record { inputs = record { low = p.input_low; formats = p.input ∷ [] }; outputs = entry_of p ∷ [] }
 
--- of each list that is tried, one entry
+-- rounding to the nearest, and of each list that is tried one entry
 abbrev pub settings_of : Plan → Settings
 settings_of p = record {
   structure = p.structure;
+  rounding = Nearest;
   accumulator = p.accumulator;
   word = p.word;
   guards = p.guard ∷ [];

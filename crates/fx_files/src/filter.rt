@@ -14,7 +14,7 @@ use crate::formats::{InputFormat, OutputFormat};
 use crate::forms::{Form, Structure};
 use crate::ports::Inputs;
 use crate::settings::Settings;
-use fx_eqs::{Eqs, PORTS};
+use fx_eqs::{Eqs, Mode, PORTS};
 use fx_keys::{Key, LOWS};
 use fx_nums::Frac;
 use std::alloc::{AllocError, Global};
@@ -56,6 +56,13 @@ impl Filter {
         ensures { result ≡ self.now.settings.structure }
     {
         self.settings.structure
+    }
+
+    /// How each row of the code drops its low places.
+    pub fn mode(&self) -> Mode
+        ensures { result ≡ self.now.settings.rounding }
+    {
+        self.settings.rounding
     }
 
     /// The equations, which are the textbook's for the form and its coefficients. Each coefficient is over a power of

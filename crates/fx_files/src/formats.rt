@@ -1,7 +1,7 @@
 use fx_nums::Frac;
 
 /// The words of an input, at the low position that all inputs share.
-#[derive(Clone, Copy, Debug, PartialEq, Eq)]
+#[derive(Clone, Copy)]
 pub struct InputFormat {
     /// Bits of a word, 2 to 32.
     pub width: u8,
@@ -10,7 +10,7 @@ pub struct InputFormat {
 }
 
 /// The words of an output, and how far they may be off.
-#[derive(Clone, Copy, Debug, PartialEq, Eq)]
+#[derive(Clone, Copy)]
 pub struct OutputFormat {
     /// The row of the equations that is put out.
     pub row: u8,

@@ -9,30 +9,25 @@ ghost use Rattle.fx_files.specs.Head.{form_in, head_in};
 ghost use Rattle.fx_files.specs.Forms.{known_keys};
 
 use crate::forms::Form;
-use fx_keys::{FilterFault, Key, needed, only_keys};
+use fx_keys::{FilterFault, Key, needed, only_keys, text_at};
 use std::alloc::Global;
 use toml::Table;
 
 fn form_of(table: &Table) -> Result<Form, FilterFault>
     ensures { result ≡ form_in (table_view table.now) }
 {
-    let value = needed(table, Key::Form)?;
-    let Some(word) = value.as_str() else {
-        return Err(FilterFault::WrongKind(Key::Form));
-    };
-    match Form::of_word(word) {
-        Some(form) => Ok(form),
-        None => Err(FilterFault::UnknownWord(Key::Form)),
-    }
+    let word = text_at(needed(table, Key::Form)?, Key::Form)?;
+    Form::of_word(word).ok_or(FilterFault::UnknownWord(Key::Form))
 }
 
 // The keys that files of each form may have.
-const SHARED_KEYS: [Key; 10] = [
+const SHARED_KEYS: [Key; 11] = [
     Key::Form,
     Key::InputLow,
     Key::Inputs,
     Key::Outputs,
     Key::Structure,
+    Key::Rounding,
     Key::Accumulator,
     Key::Word,
     Key::Guards,

@@ -13,8 +13,6 @@ mod plan;
 mod ports;
 mod reading;
 mod settings;
-#[cfg(test)]
-mod tests;
 
 pub use filter::{Filter, filters_fit};
 pub use formats::{InputFormat, OutputFormat};

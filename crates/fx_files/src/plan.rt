@@ -18,13 +18,14 @@ use crate::formats::{InputFormat, OutputEntry};
 use crate::forms::Structure;
 use crate::ports::{Inputs, Ports};
 use crate::settings::Settings;
+use fx_eqs::Mode;
 use fx_nums::Frac;
 use std::alloc::{AllocError, Global};
 
-/// What a file of one input and one output says beside its coefficients, with one entry in each list that is tried.
-/// Each value is in the range of its key; the output's low position is at most 16 from the input's, and its width is
-/// at most the accumulator's.
-#[derive(Clone, Copy, Debug, PartialEq, Eq)]
+/// What a file of one input and one output says beside its coefficients, with one entry in each list that is tried and
+/// no key `rounding`. Each value is in the range of its key; the output's low position is at most 16 from the input's,
+/// and its width is at most the accumulator's.
+#[derive(Clone, Copy)]
 pub struct Plan {
     /// The structure of the code that is to be made.
     pub structure: Structure,
@@ -70,12 +71,13 @@ impl Plan {
         })
     }
 
-    // What is to be tried.
+    // What is to be tried, with rows that round to the nearest.
     fn settings(&self, alloc: Global) -> Result<Settings, AllocError>
         ensures { IfOk result (λ s. settings_view s ≡ settings_of self.now) }
     {
         Ok(Settings {
             structure: self.structure,
+            rounding: Mode::Nearest,
             accumulator: self.accumulator,
             word: self.word,
             guards: [self.guard].to_vec(alloc)?,

@@ -6,3 +6,4 @@ pub mod Laws
 pub mod Numerals
 pub mod Table
 pub mod Wholes
+pub mod Words

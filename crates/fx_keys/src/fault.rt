@@ -6,7 +6,7 @@ use fx_decimal::DecimalFault;
 use std::alloc::{AllocError, AllocFailed};
 
 /// Why bytes are no filter file.
-#[derive(Debug, Drop)]
+#[derive(Drop)]
 pub enum FilterFault {
     /// The bytes are no text in UTF-8, or the text is no TOML table.
     NotToml,

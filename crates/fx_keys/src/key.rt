@@ -9,7 +9,7 @@ use fx_math::GREATEST_WIDTH;
 use std::marker::Model;
 
 /// The keys of a filter file.
-#[derive(Clone, Copy, Debug, PartialEq, Eq)]
+#[derive(Clone, Copy)]
 pub enum Key {
     Form,
     InputLow,
@@ -35,6 +35,7 @@ pub enum Key {
     /// `v`, its taps.
     V,
     Structure,
+    Rounding,
     Accumulator,
     Word,
     Guards,
@@ -71,6 +72,7 @@ impl Key {
             Key::K => "k",
             Key::V => "v",
             Key::Structure => "structure",
+            Key::Rounding => "rounding",
             Key::Accumulator => "accumulator",
             Key::Word => "word",
             Key::Guards => "guards",
@@ -150,7 +152,7 @@ impl Key {
 }
 
 /// The bytes of a key that the table where it stands may not have.
-#[derive(Debug, Drop)]
+#[derive(Drop)]
 pub struct KeyText {
     text: Vec<u8>,
 }

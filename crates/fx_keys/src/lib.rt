@@ -8,9 +8,8 @@ mod key;
 mod limits;
 mod numerals;
 mod table;
-#[cfg(test)]
-mod tests;
 mod wholes;
+mod words;
 
 pub use entries::{all_tables, at_most, exactly, item_count, list_at, some};
 pub use fault::FilterFault;
@@ -23,3 +22,4 @@ pub use limits::{
 pub use numerals::{each_numeral, entries_of, matrix_of, numeral_of, rows_of};
 pub use table::{needed, only_keys, table_of, unknown_keys_come_first, value_at};
 pub use wholes::{integer_or, narrowed, natural_of, naturals_of, whole_of, whole_or};
+pub use words::text_at;

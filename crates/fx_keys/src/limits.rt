@@ -5,7 +5,7 @@ ghost use Rattle.std.specs.Prelude.{◌≡◌, pos, negsuc, [], ◌∷◌};
 use fx_math::{ACCUMULATORS, GREATEST_WIDTH, LEAST_WIDTH};
 
 /// The whole numbers from one to another, both of them counted in. There is none where `low` is above `high`.
-#[derive(Clone, Copy, Debug, PartialEq, Eq)]
+#[derive(Clone, Copy)]
 pub struct Range {
     pub low: i64,
     pub high: i64,
