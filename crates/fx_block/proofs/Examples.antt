@@ -5,12 +5,14 @@ use Rattle.std.proofs.Math.IntN.{ℤ, pos, negsuc, ◌*ℤ◌}
 use Rattle.fx_nums.specs.Fraction.{Fraction, one_fraction}
 use Rattle.fx_nums.specs.Products.{product_down, product_up}
 use Rattle.fx_nums.specs.declared.fraction.Den.TheVariants.{Ten}
+use Rattle.fx_eqs.specs.declared.mode.Mode.{Mode}
+use Rattle.fx_eqs.specs.declared.mode.Mode.TheVariants.{Nearest, Floor}
 use Rattle.fx_eqs.specs.Textbook.{tf_equations}
 use Rattle.fx_files.specs.Coefficients.{Tf}
 use Rattle.fx_files.specs.Filter.{Filter}
 use Rattle.fx_files.specs.declared.forms.Structure.TheVariants.{Df1}
 use Rattle.fx_net.specs.Rows.{put_rows, row_of}
-use Rattle.fx_code.specs.Code.{Code, Row, bare}
+use Rattle.fx_code.specs.Code.{Code, Row}
 use Rattle.fx_code.specs.declared.term.CodeTerm.{CodeTerm}
 use Rattle.fx_code.specs.declared.term.Read.{Read}
 use Rattle.fx_code.specs.declared.term.Read.TheVariants.{Now, Old, In}
@@ -54,8 +56,11 @@ filter_of b a bound accumulator low error = record {
 abbrev term : ℤ → Read → ℕ → CodeTerm
 term coef from left = record { coef = coef; from = from; left = left }
 
+abbrev row_in : Mode → ℕ → List CodeTerm → Row
+row_in mode shift terms = record { width = 16; own = record { shift = shift; mode = mode; terms = terms } }
+
 abbrev row : ℕ → List CodeTerm → Row
-row shift terms = record { width = 16; shift = shift; terms = terms }
+row shift terms = row_in Nearest shift terms
 
 -- its last row is put out
 abbrev code_of : ℕ → ℕ → List Row → Code
@@ -122,6 +127,27 @@ halving-bound = refl
 no-input : error_failure (halving (pos 0)) halving_code (certificate 64 (pos 1 ∷ pos 0 ∷ []) (pos (2 ^ 64))) ≡ None
 unfolding put_rows row_of hand_on carry to_input product_down product_up
 no-input = refl
+
+-- the same without the half step: each word is off by less than a whole one, so by twice as much in all
+abbrev floored_code : Code
+floored_code = code_of 32 0 (row_in Floor 1 (term (pos 1) (Old 0) 0 ∷ term (pos 1) (In 0) 1 ∷ []) ∷ [])
+
+floored-holds : bound_failure (halving (pos 100)) floored_code
+    (certificate 64 (pos 202 ∷ pos 200 ∷ []) (pos 36893488147419103632)) ≡ None
+unfolding put_rows row_of hand_on carry to_input product_down product_up
+floored-holds = refl
+
+floored-bound : bound_failure (halving (pos 100)) floored_code
+    (certificate 64 (pos 201 ∷ pos 200 ∷ []) (pos 36893488147419103632))
+    ≡ Some (record { which = Bound 0; left = pos 3726242302889329426431; right = pos 3707795558815619874816 })
+unfolding put_rows row_of hand_on carry to_input product_down product_up
+floored-bound = refl
+
+floored-error : error_failure (halving (pos 100)) floored_code
+    (certificate 64 (pos 202 ∷ pos 200 ∷ []) (pos 36893488147419103631))
+    ≡ Some (record { which = Error 0; left = pos 36893488147419103632; right = pos 36893488147419103631 })
+unfolding put_rows row_of hand_on carry to_input product_down product_up
+floored-error = refl
 
 -- ---- a tenth of the last value, and 819 / 2 ^ 13 in its place
 
@@ -229,11 +255,11 @@ abbrev bounds_of : Trial → ℕ → ℕ
 bounds_of (Passed x) = x
 bounds_of _ = λ j. 0
 
-half-candidate : bounds_of (trial half (bare (row 1 (term (pos 1) (In 0) 0 ∷ [])) ∷ []) 1) 0 ≡ 51
+half-candidate : bounds_of (trial half ((row 1 (term (pos 1) (In 0) 0 ∷ [])).own ∷ []) 1) 0 ≡ 51
 unfolding put_rows row_of hand_on carry to_input product_down product_up
 half-candidate = refl
 
-half-original : bounds_of (trial half (bare (row 1 (term (pos 1) (In 0) 0 ∷ [])) ∷ []) 1) 1 ≡ 50
+half-original : bounds_of (trial half ((row 1 (term (pos 1) (In 0) 0 ∷ [])).own ∷ []) 1) 1 ≡ 50
 unfolding put_rows row_of hand_on carry to_input product_down product_up
 half-original = refl
 
@@ -242,6 +268,6 @@ adding-candidate : trial
       outputs =
           record { row = 0; width = 8; low = pos 0; error = over_ten (pos 1) 0; target = pos (2 ^ 64) } ∷ [];
     })
-    (bare (row 0 (term (pos 1) (Old 0) 0 ∷ term (pos 1) (In 0) 0 ∷ [])) ∷ []) 1 ≡ OverCap 0 200 127
+    ((row 0 (term (pos 1) (Old 0) 0 ∷ term (pos 1) (In 0) 0 ∷ [])).own ∷ []) 1 ≡ OverCap 0 200 127
 unfolding put_rows row_of hand_on carry to_input product_down product_up
 adding-candidate = refl

@@ -16,7 +16,7 @@ use Rattle.fx_files.specs.Filter.{Filter}
 use Rattle.fx_eqs.specs.Expanded.{expanded, row_place}
 use Rattle.fx_net.specs.Net.{empty_net}
 use Rattle.fx_net.specs.Rows.{put_rows}
-use Rattle.fx_code.specs.Code.{BareRow, Code, Row as CodeRow, bare, row_at}
+use Rattle.fx_code.specs.Code.{BareRow, Code, Row as CodeRow, bare, no_row, row_at}
 use Rattle.fx_code.specs.Fits.{CodeFits, RowFits}
 use Rattle.fx_code.specs.NetRows.{bare_at, bare_rows, put_bare_rows}
 use Rattle.fx_cert.specs.Certificate.{Certificate}
@@ -130,7 +130,7 @@ module _ (filter : Filter) (rows : List BareRow) (moments : ℕ) (x : ℕ → �
 
 -- each row without its width, those past the rows too
 bare_is : (rows : List CodeRow) (i : ℕ) → bare_at (map bare rows) i
-    ≡ bare (slice_index_or rows i (record { width = 0; shift = 0; terms = [] }))
+    ≡ (slice_index_or rows i no_row).own
 bare_is [] i = refl
 bare_is (row ∷ rows) zero = refl
 bare_is (row ∷ rows) (suc i) = bare_is rows i
@@ -196,7 +196,7 @@ module _ (filter : Filter) (rows : List BareRow) (moments : ℕ) (x : ℕ → �
   row_below : (i : ℕ) → i < length p.rows → RowFits p.accumulator (row_at p i)
   row_below i l = fits.rows i _ l
 
-  same_shift : (i : ℕ) → i < length p.rows → (row_at p i).shift ≡ (bare_at rows i).shift
+  same_shift : (i : ℕ) → i < length p.rows → (row_at p i).own.shift ≡ (bare_at rows i).shift
   same_shift i l = ap (λ (row : BareRow). row.shift) (sym (bare_is p.rows i)
       ∙ ap (λ bare. bare_at bare i) program.rows_are)
 
@@ -232,10 +232,10 @@ module _ (filter : Filter) (rows : List BareRow) (moments : ℕ) (x : ℕ → �
           subst (λ w. pos (x i) ≤ℤ pos (2 ^ (w - 1) - 1)) same (omega (arith, ints, (within_cap i l).0))
 
   sum_holds : (i : ℕ) → i < length p.rows →
-      (pos (2 ^ (row_at p i).shift) *ℤ (pos (x i) +ℤ pos 1)) ≤ℤ pos (2 ^ (p.accumulator - 1))
+      (pos (2 ^ (row_at p i).own.shift) *ℤ (pos (x i) +ℤ pos 1)) ≤ℤ pos (2 ^ (p.accumulator - 1))
   sum_holds i l =
-      sum_fits (x i) (row_at p i).shift p.accumulator (row_below i l).shift_kept
-      (subst (λ a. x i ≤ 2 ^ (a - 1 - (row_at p i).shift) - 1) (sym program.accumulator)
+      sum_fits (x i) (row_at p i).own.shift p.accumulator (row_below i l).shift_kept
+      (subst (λ a. x i ≤ 2 ^ (a - 1 - (row_at p i).own.shift) - 1) (sym program.accumulator)
       (subst (λ r. x i ≤ 2 ^ (filter.settings.accumulator - 1 - r) - 1) (sym (same_shift i l)) (within_cap i l).1))
 
   widths_hold : (i : ℕ) → i < length p.rows → WidthsHold p i (bound_at c i)

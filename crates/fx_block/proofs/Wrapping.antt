@@ -15,7 +15,7 @@ use Rattle.fx_math.proofs.Division.{floor_below, floor_above}
 use Rattle.fx_math.proofs.Residue.{wrap_fits, small_fits}
 use Rattle.fx_math.proofs.Ring.{mul_comm}
 use Rattle.fx_math.proofs.Unroll.{same_fill, fill_at}
-use Rattle.fx_code.specs.Code.{Code, row_at, bare, constant_of, weight}
+use Rattle.fx_code.specs.Code.{Code, row_at, constant_of, weight}
 use Rattle.fx_code.specs.Fits.{RowFits, SourceFits, CodeFits}
 use Rattle.fx_code.specs.Run.{word_read, terms_sum, whole_sum, word_step, words, sum_at, IsExact}
 use Rattle.fx_code.specs.declared.term.CodeTerm.{CodeTerm}
@@ -43,8 +43,8 @@ pub ideal_is_floored : (p : Code) → CodeFits p → UnrolledIsItsStep → Ideal
 ideal_is_floored p fits law u k i row =
     law (length p.rows) (ideal_step p u)
     (λ k i now later old h same.
-    ap (λ s. floor_div (pos (constant_of (bare (row_at p i))) +ℤ s) (2 ^ (row_at p i).shift))
-    (same_terms i (length p.inputs) now later old (u k) (row_at p i).terms (fits.reads i h).sources same))
+    ap (λ s. floor_div (pos (constant_of (row_at p i).own) +ℤ s) (2 ^ (row_at p i).own.shift))
+    (same_terms i (length p.inputs) now later old (u k) (row_at p i).own.terms (fits.reads i h).sources same))
     k i row
 
 -- ---- what fits
@@ -58,11 +58,11 @@ within a (negsuc y) d x h p lo hi b k = (omega (arith, ints, mul-le-mul_left d b
 
 -- the accumulator holds the sum of a row whose floor is within x
 sum_fits : (p : Code) (i x : ℕ) (a : ℤ) → WidthsHold p i x →
-    unsigned_abs (floor_div a (2 ^ (row_at p i).shift)) ≤ x → FitsBits p.accumulator a
+    unsigned_abs (floor_div a (2 ^ (row_at p i).own.shift)) ≤ x → FitsBits p.accumulator a
 sum_fits p i x a w b =
-    let d : ℕ = 2 ^ (row_at p i).shift in
+    let d : ℕ = 2 ^ (row_at p i).own.shift in
     let y : ℤ = floor_div a d in
-    let some : 0 < d = pow_pos (row_at p i).shift in
+    let some : 0 < d = pow_pos (row_at p i).own.shift in
     let turned : pos d *ℤ y ≡ y *ℤ pos d = mul_comm (pos d) y in
     let low : (pos d *ℤ y) ≤ℤ a = subst (λ s. s ≤ℤ a) (λ t. mul_comm y (pos d) t) (floor_below a d some) in
     let high : a <ℤ (pos d *ℤ y +ℤ pos d) =
@@ -105,9 +105,9 @@ module _ (p : Code) (fits : CodeFits p) (u : ℕ → ℕ → ℤ) (x : ℕ → �
       let w : WidthsHold p i (x i) = widths i l in
       let e : wrap p.accumulator a ≡ a =
       wrap_fits p.accumulator a accumulator_positive (sum_fits p i (x i) a w (on_the_way k i l)) in
-      ap (λ y. wrap (row_at p i).width (floor_div y (2 ^ (row_at p i).shift))) e
-      ∙ wrap_fits (row_at p i).width (floor_div a (2 ^ (row_at p i).shift)) (width_positive i l)
-      (word_fits p i (x i) (floor_div a (2 ^ (row_at p i).shift)) w (on_the_way k i l))
+      ap (λ y. wrap (row_at p i).width (floor_div y (2 ^ (row_at p i).own.shift))) e
+      ∙ wrap_fits (row_at p i).width (floor_div a (2 ^ (row_at p i).own.shift)) (width_positive i l)
+      (word_fits p i (x i) (floor_div a (2 ^ (row_at p i).own.shift)) w (on_the_way k i l))
 
   same_last : (k : ℕ) → last (length p.rows) (word_step p u) k ≡ last (length p.rows) (ideal_step p u) k
   same_last zero = refl
@@ -130,11 +130,11 @@ module _ (p : Code) (fits : CodeFits p) (u : ℕ → ℕ → ℤ) (x : ℕ → �
       let e : sum_at p u k i ≡ whole_sum (row_at p i) (so_far (length p.rows) (ideal_step p u) k i)
       (last (length p.rows) (ideal_step p u) k) (u k) =
       λ t. whole_sum (row_at p i) (same_so_far k i (omega arith) t) (same_last k t) (u k) in
-      let b : unsigned_abs (floor_div (sum_at p u k i) (2 ^ (row_at p i).shift)) ≤ x i = rw e (on_the_way k i l) in
+      let b : unsigned_abs (floor_div (sum_at p u k i) (2 ^ (row_at p i).own.shift)) ≤ x i = rw e (on_the_way k i l) in
       let w : WidthsHold p i (x i) = widths i l in
       record {
         sum = wrap_fits p.accumulator (sum_at p u k i) accumulator_positive (sum_fits p i (x i) (sum_at p u k i) w b);
-        store = word_fits p i (x i) (floor_div (sum_at p u k i) (2 ^ (row_at p i).shift)) w b;
+        store = word_fits p i (x i) (floor_div (sum_at p u k i) (2 ^ (row_at p i).own.shift)) w b;
       }
 
   same : (k i : ℕ) → words p u k i ≡ ideal p u k i

@@ -75,7 +75,7 @@ word_failure p c = first_of (length p.rows) (λ i.
 abbrev pub sum_failure : Code → Certificate → Option Failure
 sum_failure p c =
     first_of (length p.rows) (λ i.
-    above (Sum i) (pos (2 ^ (row_at p i).shift) *ℤ (pos (bound_at c i) +ℤ pos 1))
+    above (Sum i) (pos (2 ^ (row_at p i).own.shift) *ℤ (pos (bound_at c i) +ℤ pos 1))
     (pos (2 ^ (p.accumulator - 1))))
 
 abbrev pub error_failure : Filter → Code → Certificate → Option Failure

@@ -6,8 +6,6 @@ mod certified;
 mod inequality;
 mod laws;
 mod least;
-#[cfg(test)]
-mod tests;
 
 pub use certified::{inequalities_make_sound, none_fails_where_all_hold, passing_candidates_pass};
 pub use inequality::Inequality;

@@ -20,9 +20,9 @@ code_below : (p : Code) → IsWhole p → RowsBelow (length p.rows) (map net_row
 code_below p whole =
     All-map (AreBelow (length p.rows)) net_row (bare_rows p)
     (All-map (λ row. AreBelow (length p.rows) (net_row row)) bare p.rows
-    (All-weaker (λ (row : code.Row). All (λ (t : CodeTerm). OldIsThere (length p.rows) t.from) row.terms)
-    (λ (row : code.Row). AreBelow (length p.rows) (net_row (bare row)))
-    (λ row. bare_row_below (length p.rows) (bare row)) p.rows whole.reads))
+    (All-weaker (λ (row : code.Row). All (λ (t : CodeTerm). OldIsThere (length p.rows) t.from) row.own.terms)
+    (λ (row : code.Row). AreBelow (length p.rows) (net_row row.own))
+    (λ row. bare_row_below (length p.rows) row.own) p.rows whole.reads))
 
 -- behind the rows of a program a new net is still empty
 pub code_leaves_empty : (p : Code) (n place count : ℕ) → length p.rows ≤ place →

@@ -25,7 +25,7 @@ word p c i = above (Word i) (pos (bound_at c i)) (pos (2 ^ ((row_at p i).width -
 
 abbrev pub sum : Code → Certificate → ℕ → Option Failure
 sum p c i =
-    above (Sum i) (pos (2 ^ (row_at p i).shift) *ℤ (pos (bound_at c i) +ℤ pos 1)) (pos (2 ^ (p.accumulator - 1)))
+    above (Sum i) (pos (2 ^ (row_at p i).own.shift) *ℤ (pos (bound_at c i) +ℤ pos 1)) (pos (2 ^ (p.accumulator - 1)))
 
 abbrev pub error : Filter → Code → Certificate → ℕ → Option Failure
 error filter p c o = above (Error o) (pair_total filter p c o) (error_at c o)

@@ -96,7 +96,7 @@ fn test_sum(p: &Program, c: &Cert, i: usize) -> Result<(), Refusal>
     requires bound { i < length c.now.bounds }
     requires few { i < LARGEST_NET }
     ensures { told_by result
-        ≡ above (SumOf i) (pos (2 ^ (row_at p.now i).shift) *ℤ (pos (bound_at c.now i) +ℤ pos 1))
+        ≡ above (SumOf i) (pos (2 ^ (row_at p.now i).own.shift) *ℤ (pos (bound_at c.now i) +ℤ pos 1))
         (pos (2 ^ (p.now.accumulator - 1))) }
 {
     at_most(

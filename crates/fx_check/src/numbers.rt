@@ -104,7 +104,7 @@ pub fn greatest_word(p: &Program, i: usize) -> i128
 // The power of two by which row `i` shifts to the right.
 fn divisor(p: &Program, i: usize) -> i64
     requires { i < length p.now.rows }
-    ensures { result ≡ pos (2 ^ (row_at p.now i).shift) }
+    ensures { result ≡ pos (2 ^ (row_at p.now i).own.shift) }
 {
     1 << p.shift(i)
 }
@@ -121,7 +121,7 @@ fn product(a: i64, b: i128) -> i128
 pub fn greatest_sum(p: &Program, i: usize, bound: i128) -> i128
     requires row { i < length p.now.rows }
     requires bound { IsUpTo greatest_bound bound }
-    ensures { result ≡ pos (2 ^ (row_at p.now i).shift) *ℤ (bound +ℤ pos 1) }
+    ensures { result ≡ pos (2 ^ (row_at p.now i).own.shift) *ℤ (bound +ℤ pos 1) }
 {
     product(divisor(p, i), bound + 1)
 }

@@ -163,10 +163,10 @@ row_added p row fits e =
     let total = if_none _ _ _ terms.1 in
     let below : n + 1 ≤ CODE_ROWS = ltb-false CODE_ROWS (n + 1) count.0 in
     let within = inside_from LEAST_WIDTH (min GREATEST_WIDTH p.accumulator) row.width width.0 in
-    let shifted : row.shift ≤ min LONGEST_SHIFT (p.accumulator - 1) =
-    ltb-false (min LONGEST_SHIFT (p.accumulator - 1)) row.shift shift.0 in
-    let few : term_count p.rows + length row.terms ≤ CODE_TERMS = ltb-false CODE_TERMS _ total.0 in
-    let each = terms_fit n (length p.inputs) row.shift [] row.terms terms.0 in
+    let shifted : row.own.shift ≤ min LONGEST_SHIFT (p.accumulator - 1) =
+    ltb-false (min LONGEST_SHIFT (p.accumulator - 1)) row.own.shift shift.0 in
+    let few : term_count p.rows + length row.own.terms ≤ CODE_TERMS = ltb-false CODE_TERMS _ total.0 in
+    let each = terms_fit n (length p.inputs) row.own.shift [] row.own.terms terms.0 in
     let longer = length-append p.rows (row ∷ []) in
     let here : RowFits p.accumulator row = record {
       width = record { low = within.0; high = omega (arith, within.1) };
@@ -185,8 +185,8 @@ row_added p row fits e =
       rows_high = omega arith;
       rows = All-push (RowFits p.accumulator) p.rows row fits.rows here;
       reads = push_cases p.rows row _ (λ m r. ReadsFit m (length p.inputs) r) fits.reads
-          (record { sources = each.1; once = once_each n (length p.inputs) row.shift [] row.terms terms.0 });
-      terms = omega (arith, few, sum_by-append (λ (r : Row). length r.terms) p.rows (row ∷ []));
+          (record { sources = each.1; once = once_each n (length p.inputs) row.own.shift [] row.own.terms terms.0 });
+      terms = omega (arith, few, sum_by-append (λ (r : Row). length r.own.terms) p.rows (row ∷ []));
       outputs_high = fits.outputs_high;
       outputs = All-weaker (λ o. o < n) (λ o. o < length (p.rows ++ row ∷ [])) (λ o h.
           omega (arith, longer)) p.outputs fits.outputs;
@@ -298,16 +298,16 @@ terms_pass n inputs shift earlier (t ∷ ts) few fits sources once =
 
 pub row_passes : (p : Code) (row : Row) → length p.rows < CODE_ROWS → 16 ≤ p.accumulator →
     RowFits p.accumulator row → ReadsFit (length p.rows) (length p.inputs) row →
-    term_count p.rows + length row.terms ≤ CODE_TERMS → row_fault p row ≡ None
+    term_count p.rows + length row.own.terms ≤ CODE_TERMS → row_fault p row ≡ None
 row_passes p row few wide fits reads terms =
     let n = length p.rows in
     none_if _ _ _ (le-ltb CODE_ROWS (n + 1) (omega arith)) (
     none_if _ _ _ (not_outside LEAST_WIDTH (min GREATEST_WIDTH p.accumulator) row.width fits.width.low
     (omega (arith, fits.width.high, fits.width_kept))) (
-    none_if _ _ _ (le-ltb (min LONGEST_SHIFT (p.accumulator - 1)) row.shift
+    none_if _ _ _ (le-ltb (min LONGEST_SHIFT (p.accumulator - 1)) row.own.shift
     (omega (arith, fits.shift_high, fits.shift_kept))) (
-    rw (terms_pass n (length p.inputs) row.shift [] row.terms (omega arith) fits.terms reads.sources
-    (distinct_once row.terms reads.once)) (
+    rw (terms_pass n (length p.inputs) row.own.shift [] row.own.terms (omega arith) fits.terms reads.sources
+    (distinct_once row.own.terms reads.once)) (
     none_if _ _ _ (le-ltb CODE_TERMS _ terms) refl))))
 
 pub output_passes : (p : Code) (i : ℕ) → length p.outputs < PORTS → i < length p.rows → output_fault p i ≡ None

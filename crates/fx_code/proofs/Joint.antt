@@ -55,9 +55,9 @@ code_whole : (g accumulator : ℕ) (rows : List Row) → All (RowFits accumulato
     DividesRows (g * 2 ^ LONGEST_SHIFT) (map net_row (map bare rows))
 code_whole g accumulator [] all = All-nil (λ (ts : List NetTerm). All (IsWhole (g * 2 ^ LONGEST_SHIFT)) ts)
 code_whole g accumulator (row ∷ rows) all =
-    All-cons (λ (ts : List NetTerm). All (IsWhole (g * 2 ^ LONGEST_SHIFT)) ts) (net_row (bare row))
+    All-cons (λ (ts : List NetTerm). All (IsWhole (g * 2 ^ LONGEST_SHIFT)) ts) (net_row row.own)
     (map net_row (map bare rows))
-    (terms_whole g row.shift row.terms (All-head (RowFits accumulator) row rows all).shift_high)
+    (terms_whole g row.own.shift row.own.terms (All-head (RowFits accumulator) row rows all).shift_high)
     (code_whole g accumulator rows (All-tail (RowFits accumulator) row rows all))
 
 -- ---- the net

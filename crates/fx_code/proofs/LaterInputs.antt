@@ -25,7 +25,7 @@ pub same_step : (p : Code) (u v : ℕ → ℕ → ℤ) (k : ℕ) → u k ≡ v k
     word_step p u k i now old ≡ word_step p v k i now old
 same_step p u v k e i now old =
     ap (λ (input : ℕ → ℤ). wrap (row_at p i).width
-    (floor_div (wrap p.accumulator (whole_sum (row_at p i) now old input)) (2 ^ (row_at p i).shift))) e
+    (floor_div (wrap p.accumulator (whole_sum (row_at p i) now old input)) (2 ^ (row_at p i).own.shift))) e
 
 pub same_moment : (list rest : List (List ℤ)) (k : ℕ) → k < length list → word_at (list ++ rest) k ≡ word_at list k
 same_moment list rest k h =

@@ -1,5 +1,6 @@
 mod FirstFault
 pub mod Fitting
+mod Floors
 mod Joint
 mod Kept
 pub mod LaterInputs

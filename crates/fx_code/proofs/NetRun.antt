@@ -1,65 +1,40 @@
 -- In a net that holds a program, numbers that are floored as words are, and so words, are a perturbed run of its rows.
 use Rattle.std.proofs.Common.{◌≡◌, ℕ, zero, suc, ◌+◌, ◌-◌, ◌*◌, ◌^◌, ◌<◌, ◌≤◌, List, [], ◌∷◌, map, length}
-use Rattle.std.proofs.Common.{get_or, arith, refl, ap, ap₂, sym, ◌∙◌, subst, eqb, false}
+use Rattle.std.proofs.Common.{get_or, arith, refl, ap, ap₂, sym, ◌∙◌, subst}
 use Rattle.std.proofs.Math.IntN.{ℤ, pos, ◌+ℤ◌, ◌-ℤ◌, ◌*ℤ◌, neg_ℤ}
 use Rattle.std.specs.Prelude.{unsigned_abs}
 use Rattle.std.proofs.lemmas.Int.{ints, unsigned_abs-mul}
-use Rattle.std.proofs.lemmas.Bool.{ne_eqb, cond-false}
 use Rattle.std.proofs.lemmas.List.{get_or-map, length-map}
 use Rattle.std.proofs.lemmas.Nat.{pow_pos}
-use Rattle.std.proofs.Math.Nat.{mul-le-mul_right, pow-succ', le_of_mul-le-mul_left}
+use Rattle.std.proofs.Math.Nat.{mul-le-mul_right, le_of_mul-le-mul_left}
 use Rattle.fx_math.specs.Division.{floor_div}
 use Rattle.fx_math.specs.Laws.{UnrolledIsItsStep}
 use Rattle.fx_math.specs.Residue.{wrap}
 use Rattle.fx_math.specs.Unroll.{before, last, so_far}
 use Rattle.fx_math.proofs.Unroll.{fill_kept, last_is_before}
-use Rattle.fx_math.proofs.Division.{floor_below, floor_above}
-use Rattle.fx_math.proofs.Ring.{mul-add, mul_comm, mul_assoc, mul-neg, add-mul, neg-mul}
+use Rattle.fx_math.proofs.Ring.{mul-add, mul_assoc, mul-neg, add-mul, neg-mul}
 use Rattle.fx_nums.specs.Fraction.{over, zero_fraction, IsWholeOver}
 use Rattle.fx_net.specs.Net.{Net}
 use Rattle.fx_net.specs.Rows.{reads_now, reads_old, reads_input, coefficient, row_of}
 use Rattle.fx_net.specs.Run.{IsDenominator, row_time, row_sum}
+use Rattle.fx_eqs.specs.declared.mode.Mode.{Mode}
 use Rattle.fx_eqs.proofs.TermValues.{gather}
 use Rattle.fx_net.proofs.Carried.{of_now, of_old, of_input, right, one_power, powers_to}
 use Rattle.fx_net.proofs.Coefficients.{value_at, net_sum}
-use Rattle.fx_code.specs.Code.{Code, row_at, bare, half_place, constant_of, weight, OldIsThere, IsWhole}
+use Rattle.fx_code.specs.Code.{Code, row_at, bare, no_bare_row, constant_in, constant_of, weight, OldIsThere}
+use Rattle.fx_code.specs.Code.{IsWhole}
 use Rattle.fx_code.specs.Fits.{SourceFits, CodeFits}
 use Rattle.fx_code.specs.Laws.{ExactWords, HasNumbers, IsWithinClass, IsFloored, FlooredRowsRun}
 use Rattle.fx_code.specs.Laws.{WordsAreTheirStep, WordsRun}
-use Rattle.fx_code.specs.NetRows.{net_read, net_row, class_of, bare_rows, HoldsCode}
+use Rattle.fx_code.specs.NetRows.{net_read, net_row, class_in, class_of, bare_rows, HoldsCode}
 use Rattle.fx_code.specs.Run.{word_read, terms_sum, whole_sum, word_step, words, sum_at}
 use Rattle.fx_code.specs.declared.term.CodeTerm.{CodeTerm}
 use Rattle.fx_code.specs.declared.term.Read.{Read}
 use Rattle.fx_code.specs.declared.term.Read.TheVariants.{Now, Old, In}
 use Rattle.fx_net.proofs.Terms.{HasTerms, as_terms, AllWhole, whole_terms}
 use Rattle.fx_code.proofs.NetTerms.{kept, kept_term, coefficient_kept, are_once, all_fit, kept_over}
+use Rattle.fx_code.proofs.Floors.{class_at}
 use Rattle.fx_code.proofs.Placing.{bare_is, read_fits}
-
--- ---- rounding
-
-within_half : (r : ℕ) (a : ℤ) →
-    2 * unsigned_abs (pos (2 ^ suc r) *ℤ floor_div (pos (2 ^ r) +ℤ a) (2 ^ suc r) -ℤ a) ≤ 1 * 2 ^ suc r
-within_half r a =
-    let y : ℤ = floor_div (pos (2 ^ r) +ℤ a) (2 ^ suc r) in
-    let low = floor_below (pos (2 ^ r) +ℤ a) (2 ^ suc r) (pow_pos (suc r)) in
-    let high = floor_above (pos (2 ^ r) +ℤ a) (2 ^ suc r) (pow_pos (suc r)) in
-    let e : 2 ^ suc r ≡ 2 * 2 ^ r = pow-succ' 2 r in
-    let turned : pos (2 ^ suc r) *ℤ y ≡ y *ℤ pos (2 ^ suc r) = mul_comm (pos (2 ^ suc r)) y in
-    omega (arith, ints)
-
--- 2 ^ r times the floor, against the sum
-rounding : (r : ℕ) (ts : List CodeTerm) (a : ℤ) →
-    2 * unsigned_abs (pos (2 ^ r) *ℤ floor_div (pos (half_place r) +ℤ a) (2 ^ r) -ℤ a) ≤
-    class_of (record { shift = r; terms = ts }) * 2 ^ r
-rounding zero ts a =
-    let low = floor_below (pos 0 +ℤ a) 1 (omega arith) in
-    let high = floor_above (pos 0 +ℤ a) 1 (omega arith) in
-    omega (arith, ints)
-rounding (suc r) ts a =
-    let shifted : eqb (suc r) 0 ≡ false = ne_eqb (suc r) 0 (λ e. omega arith) in
-    let one : class_of (record { shift = suc r; terms = ts }) ≡ 1 = cond-false _ _ _ shifted in
-    subst (λ n. 2 * unsigned_abs (pos (2 ^ suc r) *ℤ floor_div (pos (2 ^ r) +ℤ a) (2 ^ suc r) -ℤ a) ≤ n * 2 ^
-    suc r) (sym one) (within_half r a)
 
 -- z is y g, and d t is s g, with d y near s: so z is near t
 near : (d e g : ℕ) (z t y s : ℤ) → 0 < d → z ≡ y *ℤ pos g → pos d *ℤ t ≡ s *ℤ pos g →
@@ -147,16 +122,16 @@ module _ (p : Code) (net : Net) (at q : ℕ) (u y z : ℕ → ℕ → ℤ)
   count_is : length (map net_row (bare_rows p)) ≡ length p.rows
   count_is = length-map (bare_rows p) net_row ∙ length-map p.rows bare
 
-  row_is : (i : ℕ) → i < length p.rows → row_of (map net_row (bare_rows p)) i ≡ net_row (bare (row_at p i))
+  row_is : (i : ℕ) → i < length p.rows → row_of (map net_row (bare_rows p)) i ≡ net_row (row_at p i).own
   unfolding row_of
   row_is i row =
-      get_or-map net_row (bare_rows p) i (record { shift = 0; terms = [] }) _ (rw (length-map p.rows bare) row)
+      get_or-map net_row (bare_rows p) i no_bare_row _ (rw (length-map p.rows bare) row)
       ∙ ap net_row (bare_is p.rows i)
 
-  has_terms : (i : ℕ) → i < length p.rows → HasTerms net at i (map (kept_term (row_at p i).shift) (row_at p i).terms)
+  has_terms : (i : ℕ) → i < length p.rows → HasTerms net at i (map (kept_term (row_at p i).own.shift) (row_at p i).own.terms)
   has_terms i row =
-      let shift : ℕ = (row_at p i).shift in
-      let ts : List CodeTerm = (row_at p i).terms in
+      let shift : ℕ = (row_at p i).own.shift in
+      let ts : List CodeTerm = (row_at p i).own.terms in
       let below : i < length (map net_row (bare_rows p)) = rw count_is row in
       record {
         inside = let a = room in omega arith;
@@ -171,28 +146,29 @@ module _ (p : Code) (net : Net) (at q : ℕ) (u y z : ℕ → ℕ → ℤ)
       }
 
   row_scaled : (k i : ℕ) → i < length p.rows →
-      pos (2 ^ (row_at p i).shift) *ℤ row_sum net q u z k (at + i)
-      ≡ terms_sum (y k) (before y k) (u k) (row_at p i).terms *ℤ pos (q ^ (row_time net k (at + i) + 1))
+      pos (2 ^ (row_at p i).own.shift) *ℤ row_sum net q u z k (at + i)
+      ≡ terms_sum (y k) (before y k) (u k) (row_at p i).own.terms *ℤ pos (q ^ (row_time net k (at + i) + 1))
   row_scaled k i row =
-      let shift : ℕ = (row_at p i).shift in
-      let ts : List CodeTerm = (row_at p i).terms in
+      let shift : ℕ = (row_at p i).own.shift in
+      let ts : List CodeTerm = (row_at p i).own.terms in
       ap (λ x. pos (2 ^ shift) *ℤ x) (as_terms net at q i (map (kept_term shift) ts) u z k (has_terms i row))
       ∙ sum_scaled k i shift ts row (fits.reads i row).sources (whole.reads i _ row)
       (whole_terms net at q i (map (kept_term shift) ts) den (has_terms i row))
 
   pub row_near : (k i : ℕ) → i < length p.rows → IsFloored p u y k i → IsWithinClass net q u z k (at + i)
   row_near k i row floored =
-      let shift : ℕ = (row_at p i).shift in
-      let s : ℤ = terms_sum (y k) (before y k) (u k) (row_at p i).terms in
+      let shift : ℕ = (row_at p i).own.shift in
+      let mode : Mode = (row_at p i).own.mode in
+      let s : ℤ = terms_sum (y k) (before y k) (u k) (row_at p i).own.terms in
       let number : z k (at + i)
-      ≡ floor_div (pos (half_place shift) +ℤ s) (2 ^ shift) *ℤ pos (q ^ (row_time net k (at + i) + 1)) =
+      ≡ floor_div (pos (constant_in mode shift) +ℤ s) (2 ^ shift) *ℤ pos (q ^ (row_time net k (at + i) + 1)) =
       has k i row ∙ ap (λ x. x *ℤ pos (q ^ (row_time net k (at + i) + 1))) floored in
       subst (λ n. 2 * unsigned_abs (z k (at + i) -ℤ row_sum net q u z k (at + i)) ≤ n * q ^
       (row_time net k (at + i) + 1))
       (sym (holds.classes i (rw (length-map p.rows bare) row) ∙ ap class_of (bare_is p.rows i)))
-      (near (2 ^ shift) (class_of (bare (row_at p i))) (q ^ (row_time net k (at + i) + 1)) (z k (at + i))
-      (row_sum net q u z k (at + i)) (floor_div (pos (half_place shift) +ℤ s) (2 ^ shift)) s
-      (pow_pos shift) number (row_scaled k i row) (rounding shift (row_at p i).terms s))
+      (near (2 ^ shift) (class_in mode shift) (q ^ (row_time net k (at + i) + 1)) (z k (at + i))
+      (row_sum net q u z k (at + i)) (floor_div (pos (constant_in mode shift) +ℤ s) (2 ^ shift)) s
+      (pow_pos shift) number (row_scaled k i row) (class_at mode shift s))
 
 pub floored_rows : (p : Code) → CodeFits p → FlooredRowsRun p
 floored_rows p fits net at q u y z whole holds den has k i row floored =
@@ -220,17 +196,17 @@ word_steps p fits law u k i row =
     law (length p.rows) (word_step p u)
     (λ k i now later old h same.
     ap (λ s. wrap (row_at p i).width
-    (floor_div (wrap p.accumulator (pos (constant_of (bare (row_at p i))) +ℤ s)) (2 ^ (row_at p i).shift)))
-    (same_terms i (length p.inputs) now later old old (u k) (row_at p i).terms (fits.reads i h).sources same
+    (floor_div (wrap p.accumulator (pos (constant_of (row_at p i).own) +ℤ s)) (2 ^ (row_at p i).own.shift)))
+    (same_terms i (length p.inputs) now later old old (u k) (row_at p i).own.terms (fits.reads i h).sources same
     (λ j. refl)))
     k i row
 
 sum_is : (p : Code) (u : ℕ → ℕ → ℤ) (k i : ℕ) → CodeFits p → i < length p.rows →
     sum_at p u k i ≡ whole_sum (row_at p i) (words p u k) (before (words p u) k) (u k)
 sum_is p u k i fits row =
-    ap (λ x. pos (constant_of (bare (row_at p i))) +ℤ x)
+    ap (λ x. pos (constant_of (row_at p i).own) +ℤ x)
     (same_terms i (length p.inputs) (so_far (length p.rows) (word_step p u) k i) (words p u k)
-    (last (length p.rows) (word_step p u) k) (before (words p u) k) (u k) (row_at p i).terms
+    (last (length p.rows) (word_step p u) k) (before (words p u) k) (u k) (row_at p i).own.terms
     (fits.reads i row).sources
     (λ j l. fill_kept (λ i now. word_step p u k i now (last (length p.rows) (word_step p u) k)) (length p.rows)
     i j l (omega arith))
@@ -239,4 +215,4 @@ sum_is p u k i fits row =
 pub words_run : (p : Code) → CodeFits p → ExactWords p → WordsRun p
 words_run p fits floors net at q u z whole holds den has k i row exact =
     row_near p net at q u (words p u) z fits whole holds den has k i row
-    (floors u k i row exact ∙ ap (λ s. floor_div s (2 ^ (row_at p i).shift)) (sum_is p u k i fits row))
+    (floors u k i row exact ∙ ap (λ s. floor_div s (2 ^ (row_at p i).own.shift)) (sum_is p u k i fits row))

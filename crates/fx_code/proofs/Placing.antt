@@ -13,7 +13,7 @@ use Rattle.fx_net.specs.Net.{Net}
 use Rattle.fx_net.specs.Rows.{ReadFits, is_within, put_each, put_rows, AreEmpty, HoldsRows}
 use Rattle.fx_net.proofs.Filling.{filled}
 use Rattle.fx_eqs.specs.declared.limits.TheConstants.{PORTS}
-use Rattle.fx_code.specs.Code.{BareRow, Row, Code, row_at, bare, weight, OldIsThere, IsWhole}
+use Rattle.fx_code.specs.Code.{BareRow, Row, Code, row_at, bare, no_row, weight, OldIsThere, IsWhole}
 use Rattle.fx_code.specs.Fits.{TermFits, SourceFits, CodeFits}
 use Rattle.fx_code.specs.Laws.{BareRowsStand, CodeStands}
 use Rattle.fx_code.specs.NetRows.{net_read, net_row, class_of, bare_at, classes_of, put_classes, put_bare_rows}
@@ -39,20 +39,20 @@ source_fits n at i inputs rows (In j) source there few room = omega arith
 
 -- what term k of row i reads
 pub read_fits : (p : Code) (n at i k : ℕ) (ts : List CodeTerm) (d : CodeTerm) → CodeFits p → IsWhole p →
-    at + length p.rows ≤ n → i < length p.rows → ts ≡ (row_at p i).terms → k < length ts →
+    at + length p.rows ≤ n → i < length p.rows → ts ≡ (row_at p i).own.terms → k < length ts →
     ReadFits n at i (net_read (get_or ts k d).from)
 read_fits p n at i k ts d fits whole room row same h =
-    let below : k < length (row_at p i).terms = rw (← same) h in
+    let below : k < length (row_at p i).own.terms = rw (← same) h in
     let source = (fits.reads i row).sources k d below in
     let there = whole.reads i _ row k d below in
-    rw same (source_fits n at i (length p.inputs) (length p.rows) (get_or (row_at p i).terms k d).from source
+    rw same (source_fits n at i (length p.inputs) (length p.rows) (get_or (row_at p i).own.terms k d).from source
     there fits.inputs_high room)
 
 -- ---- the whole net
 
 -- each row without its width, those past the rows too
 pub bare_is : (rows : List Row) (i : ℕ) → bare_at (map bare rows) i
-    ≡ bare (slice_index_or rows i (record { width = 0; shift = 0; terms = [] }))
+    ≡ (slice_index_or rows i no_row).own
 bare_is [] i = refl
 bare_is (row ∷ rows) zero = refl
 bare_is (row ∷ rows) (suc i) = bare_is rows i
@@ -79,7 +79,7 @@ rows_put rows at count net put same e empty =
 
 pub code_put : (p : Code) (at : ℕ) (net put : Net) → put ≡ put_each at 0 (map net_row (bare_rows p)) net →
     AreEmpty at (length p.rows) net →
-    record put { class = put_classes (λ r. class_of (bare (row_at p r))) at (length p.rows) put.class }
+    record put { class = put_classes (λ r. class_of (row_at p r).own) at (length p.rows) put.class }
     ≡ put_code p at net
 code_put p at net put e empty =
     ap (λ (classes : ℕ → ℕ). record put { class = put_classes classes at (length p.rows) put.class })

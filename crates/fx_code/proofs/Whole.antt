@@ -9,7 +9,7 @@ use Rattle.fx_code.specs.declared.program.ProgramRow.{ProgramRow}
 use Rattle.fx_code.specs.declared.term.CodeTerm.{CodeTerm}
 
 RowReads : ℕ → Row → Type 0
-RowReads count row = All (λ (t : CodeTerm). OldIsThere count t.from) row.terms
+RowReads count row = All (λ (t : CodeTerm). OldIsThere count t.from) row.own.terms
 
 -- of rows and of what contracts see of them
 map_back : (count : ℕ) (rows : List ProgramRow) → All (RowReads count) (map row_of rows) → All (RowReadsFit count) rows

@@ -14,5 +14,5 @@ pub exact_words : (p : Code) → CodeFits p → ExactWords p
 exact_words p fits u k i h exact =
     let row : RowFits p.accumulator (row_at p i) = fits.rows i _ h in
     fill_at (λ j now. word_step p u k j now (last (length p.rows) (word_step p u) k)) (length p.rows) i h
-    ∙ ap (λ z. wrap (row_at p i).width (floor_div z (2 ^ (row_at p i).shift))) exact.sum
+    ∙ ap (λ z. wrap (row_at p i).width (floor_div z (2 ^ (row_at p i).own.shift))) exact.sum
     ∙ wrap_fits (row_at p i).width _ (omega arith) exact.store

@@ -22,9 +22,9 @@ pub record TermFits (shift : ℕ) (t : CodeTerm) : Type 0 where
 pub record RowFits (accumulator : ℕ) (row : Row) : Type 0 where
   pub width : WidthFits row.width
   pub width_kept : row.width ≤ accumulator
-  pub shift_high : row.shift ≤ LONGEST_SHIFT
-  pub shift_kept : row.shift < accumulator
-  pub terms : All (TermFits row.shift) row.terms
+  pub shift_high : row.own.shift ≤ LONGEST_SHIFT
+  pub shift_kept : row.own.shift < accumulator
+  pub terms : All (TermFits row.own.shift) row.own.terms
 
 -- a source of a term in row n, of a program with this many inputs
 abbrev pub SourceFits : ℕ → ℕ → Read → Type 0
@@ -35,8 +35,8 @@ SourceFits n inputs (In j) = j < inputs
 -- what row n reads: earlier rows of this moment, rows of the moment before that a program may have, inputs that are
 -- there; each source at most once
 pub record ReadsFit (n inputs : ℕ) (row : Row) : Type 0 where
-  pub sources : All (λ (t : CodeTerm). SourceFits n inputs t.from) row.terms
-  pub once : IsDistinct (λ (e t : CodeTerm). same_source e.from t.from) row.terms
+  pub sources : All (λ (t : CodeTerm). SourceFits n inputs t.from) row.own.terms
+  pub once : IsDistinct (λ (e t : CodeTerm). same_source e.from t.from) row.own.terms
 
 -- a program
 pub record CodeFits (p : Code) : Type 0 where

@@ -8,7 +8,7 @@ use Rattle.fx_code.specs.declared.program.ProgramRow.{ProgramRow}
 use Rattle.fx_code.specs.declared.program.Program.TheInside.{Inside}
 
 abbrev pub row_of : ProgramRow → Row
-row_of r = record { width = r.width; shift = r.shift; terms = r.terms.items }
+row_of r = record { width = r.width; own = record { shift = r.shift; mode = r.mode; terms = r.terms.items } }
 
 -- the rows of the moment before that a row reads are among so many
 abbrev pub RowReadsFit : ℕ → ProgramRow → Type 0

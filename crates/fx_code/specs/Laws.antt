@@ -17,7 +17,7 @@ use Rattle.fx_code.specs.Run.{whole_sum, word_step, words, output_word, outputs_
 -- the word of an exact row is its whole-number sum, floored by the shift
 abbrev pub ExactWords : Code → Type 0
 ExactWords p = (u : ℕ → ℕ → ℤ) (k i : ℕ) → i < length p.rows → IsExact p u k i →
-    words p u k i ≡ floor_div (sum_at p u k i) (2 ^ (row_at p i).shift)
+    words p u k i ≡ floor_div (sum_at p u k i) (2 ^ (row_at p i).own.shift)
 
 -- the words of a moment are the step of the finished moment and of the one before
 abbrev pub WordsAreTheirStep : Code → Type 0
@@ -57,7 +57,7 @@ IsWithinClass net q u z k i =
 
 -- the number of row i at moment k is the row's whole-number sum over the numbers, floored by the shift
 abbrev pub IsFloored : Code → (ℕ → ℕ → ℤ) → (ℕ → ℕ → ℤ) → ℕ → ℕ → Type 0
-IsFloored p u y k i = y k i ≡ floor_div (whole_sum (row_at p i) (y k) (before y k) (u k)) (2 ^ (row_at p i).shift)
+IsFloored p u y k i = y k i ≡ floor_div (whole_sum (row_at p i) (y k) (before y k) (u k)) (2 ^ (row_at p i).own.shift)
 
 -- in a net that holds the program, whose rows have these numbers there, each row whose number is floored has what it
 -- reads, up to its half steps; the other rows of the net are free
@@ -85,7 +85,7 @@ abbrev pub FittingRows : Type 0
 FittingRows =
     (p : Code) (row : Row) →
     length p.rows < CODE_ROWS → 16 ≤ p.accumulator → RowFits p.accumulator row →
-    ReadsFit (length p.rows) (length p.inputs) row → term_count p.rows + length row.terms ≤ CODE_TERMS →
+    ReadsFit (length p.rows) (length p.inputs) row → term_count p.rows + length row.own.terms ≤ CODE_TERMS →
     row_fault p row ≡ None
 
 -- nor has an output that is a row

@@ -69,16 +69,16 @@ terms_fault n inputs shift earlier (t ∷ ts) =
 
 -- how many terms there are over all rows
 abbrev pub term_count : List Row → ℕ
-term_count rows = sum_by (λ (row : Row). length row.terms) rows
+term_count rows = sum_by (λ (row : Row). length row.own.terms) rows
 
 abbrev pub row_fault : Code → Row → Option ProgramFault
 row_fault p row =
     let n = length p.rows in
-    let terms = term_count p.rows + length row.terms in
+    let terms = term_count p.rows + length row.own.terms in
     fault_if (nat_lt CODE_ROWS (n + 1)) (Limit Rows (pos (n + 1))) (
     fault_if (is_outside LEAST_WIDTH (min GREATEST_WIDTH p.accumulator) row.width) (Limit Width (pos row.width)) (
-    fault_if (nat_lt (min LONGEST_SHIFT (p.accumulator - 1)) row.shift) (Limit Shift (pos row.shift)) (
-    option_or (terms_fault n (length p.inputs) row.shift [] row.terms) (
+    fault_if (nat_lt (min LONGEST_SHIFT (p.accumulator - 1)) row.own.shift) (Limit Shift (pos row.own.shift)) (
+    option_or (terms_fault n (length p.inputs) row.own.shift [] row.own.terms) (
     fault_if (nat_lt CODE_TERMS terms) (Limit Terms (pos terms)) None))))
 
 -- ---- an output

@@ -1,11 +1,13 @@
 -- The rows of a program in a net, where what a row stores is its value.
-use Rattle.std.specs.Prelude.{◌≡◌, ℕ, ◌+◌, ◌-◌, ◌<◌, ◌==◌, cond, List, [], map, length, slice_index_or}
+use Rattle.std.specs.Prelude.{◌≡◌, ℕ, ◌+◌, ◌-◌, ◌<◌, ◌==◌, cond, List, map, length, slice_index_or}
 use Rattle.fx_nums.specs.declared.fraction.Den.TheVariants.{Two}
 use Rattle.fx_eqs.specs.Expanded.{NetRead, NetTerm}
 use Rattle.fx_eqs.specs.Expanded.NetRead.{Now as NowRow, Old as OldRow, In as Input}
+use Rattle.fx_eqs.specs.declared.mode.Mode.{Mode}
+use Rattle.fx_eqs.specs.declared.mode.Mode.TheVariants.{Nearest, Floor}
 use Rattle.fx_net.specs.Net.{Net}
 use Rattle.fx_net.specs.Rows.{is_within, put_rows, HoldsRows}
-use Rattle.fx_code.specs.Code.{BareRow, Code, bare, weight}
+use Rattle.fx_code.specs.Code.{BareRow, Code, bare, no_bare_row, weight}
 use Rattle.fx_code.specs.declared.term.CodeTerm.{CodeTerm}
 use Rattle.fx_code.specs.declared.term.Read.{Read}
 use Rattle.fx_code.specs.declared.term.Read.TheVariants.{Now, Old, In}
@@ -23,15 +25,24 @@ net_term shift t = record { coef = record { num = weight t; den = Two shift }; f
 abbrev pub net_row : BareRow → List NetTerm
 net_row row = map (net_term row.shift) row.terms
 
--- how many half steps the perturbation of a row may have: none where nothing is shifted away
+-- how many half steps a row that drops places may be off: one to the nearest, two down
+abbrev pub halves_of : Mode → ℕ
+halves_of Nearest = 1
+halves_of Floor = 2
+
+-- none where nothing is shifted away
+abbrev pub class_in : Mode → ℕ → ℕ
+class_in mode shift = cond (shift == 0) 0 (halves_of mode)
+
+-- how many half steps the perturbation of a row may have
 abbrev pub class_of : BareRow → ℕ
-class_of row = cond (row.shift == 0) 0 1
+class_of row = class_in row.mode row.shift
 
 -- ---- rows whose widths are still open
 
--- the row at a place; past the rows one without terms
+-- the row at a place
 abbrev pub bare_at : List BareRow → ℕ → BareRow
-bare_at rows i = slice_index_or rows i (record { shift = 0; terms = [] })
+bare_at rows i = slice_index_or rows i no_bare_row
 
 -- the half steps of each of these rows
 abbrev pub classes_of : List BareRow → ℕ → ℕ

@@ -3,7 +3,7 @@ use Rattle.std.specs.Prelude.{◌≡◌, ℕ, ◌^◌, ℤ, pos, ◌+ℤ◌, ◌
 use Rattle.fx_math.specs.Division.{floor_div}
 use Rattle.fx_math.specs.Residue.{wrap, FitsBits}
 use Rattle.fx_math.specs.Unroll.{Step, last, so_far, unroll}
-use Rattle.fx_code.specs.Code.{Row, Code, row_at, bare, constant_of, weight}
+use Rattle.fx_code.specs.Code.{Row, Code, row_at, constant_of, weight}
 use Rattle.fx_code.specs.declared.term.CodeTerm.{CodeTerm}
 use Rattle.fx_code.specs.declared.term.Read.{Read}
 use Rattle.fx_code.specs.declared.term.Read.TheVariants.{Now, Old, In}
@@ -21,14 +21,14 @@ terms_sum now old input (t ∷ ts) = weight t *ℤ word_read now old input t.fro
 
 -- the whole-number sum of a row: its constant and its terms
 abbrev pub whole_sum : Row → (ℕ → ℤ) → (ℕ → ℤ) → (ℕ → ℤ) → ℤ
-whole_sum row now old input = pos (constant_of (bare row)) +ℤ terms_sum now old input row.terms
+whole_sum row now old input = pos (constant_of row.own) +ℤ terms_sum now old input row.own.terms
 
 -- the word of row i: the accumulator is read as two's complement and floored by the shift, and its low bits are kept,
 -- read as signed
 abbrev pub word_step : Code → (ℕ → ℕ → ℤ) → Step
 word_step p u k i now old =
     wrap (row_at p i).width (floor_div (wrap p.accumulator (whole_sum (row_at p i) now old (u k)))
-    (2 ^ (row_at p i).shift))
+    (2 ^ (row_at p i).own.shift))
 
 -- the words of a program on an input: moment, then row
 abbrev pub words : Code → (ℕ → ℕ → ℤ) → ℕ → ℕ → ℤ
@@ -50,4 +50,4 @@ sum_at p u k i =
 -- row i is exact at moment k: its accumulator is read as the whole-number sum, and the floored sum lies in its width
 pub record IsExact (p : Code) (u : ℕ → ℕ → ℤ) (k i : ℕ) : Type 0 where
   pub sum : wrap p.accumulator (sum_at p u k i) ≡ sum_at p u k i
-  pub store : FitsBits (row_at p i).width (floor_div (sum_at p u k i) (2 ^ (row_at p i).shift))
+  pub store : FitsBits (row_at p i).width (floor_div (sum_at p u k i) (2 ^ (row_at p i).own.shift))

@@ -28,7 +28,7 @@ pub enum LimitOf {
 }
 
 /// Why a part of a program was refused.
-#[derive(Clone, Copy, Debug, PartialEq, Eq)]
+#[derive(Clone, Copy)]
 pub enum ProgramFault {
     /// The number is out of its range.
     Limit(LimitOf, i128),

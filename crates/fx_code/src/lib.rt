@@ -2,15 +2,15 @@
 #![tactic(auto)]
 
 mod checks;
+mod dropping;
 mod fault;
 mod laws;
 mod limits;
 mod net_rows;
 mod program;
 mod term;
-#[cfg(test)]
-mod tests;
 
+pub use dropping::{class_in, constant_in};
 pub use fault::{LimitOf, ProgramFault};
 pub use laws::{
     code_stands, exact_words_are_floored_sums, joint_nets_have_a_denominator,

@@ -1,7 +1,7 @@
 ghost use Rattle.std.specs.Prelude.{◌≡◌, ◌+◌, ◌<◌, ◌≤◌, length, map};
 ghost use Rattle.fx_net.specs.Rows.{AreEmpty, ReadFits, put_each, put_term, put_terms};
 ghost use Rattle.fx_net.specs.Tables.{net_of};
-ghost use Rattle.fx_code.specs.Code.{IsWhole, bare, row_at};
+ghost use Rattle.fx_code.specs.Code.{IsWhole, row_at};
 ghost use Rattle.fx_code.specs.Fits.{TermFits};
 ghost use Rattle.fx_code.specs.NetRows.{bare_rows, class_of, net_read, net_row, net_term, put_classes, put_code};
 
@@ -37,7 +37,7 @@ impl Program {
         requires whole { IsWhole self.now }
         requires room { at + length self.now.rows ≤ N }
         requires row { i < length self.now.rows }
-        ensures { net_of net.new ≡ put_terms at i (net_row (bare (row_at self.now i))) (net_of net.old) }
+        ensures { net_of net.new ≡ put_terms at i (net_row (row_at self.now i).own) (net_of net.old) }
     {
         programs_fit(self);
         let shift = self.shift(i);
@@ -62,7 +62,7 @@ impl Program {
         requires room { at + length self.now.rows ≤ N }
         ensures { net_of net.new ≡ record (net_of net.old) {
           class =
-              put_classes (λ r. class_of (bare (row_at self.now r))) at (length self.now.rows)
+              put_classes (λ r. class_of (row_at self.now r).own) at (length self.now.rows)
               (net_of net.old).class;
         } }
     {
@@ -73,7 +73,8 @@ impl Program {
 
     /// Writes the rows of a whole program into a net, from row `at` on: what a row takes of a source is the term's
     /// coefficient, shifted to the left, over 2 to the power of the row's right shift. A row's class is 0 where its
-    /// right shift is 0, else 1, as rounding is off by at most half a step. The rows have to fit into the net, and to
+    /// right shift is 0, else 1 where it rounds to the nearest, and 2 where it floors: it is off by at most so many half
+    /// steps. The rows have to fit into the net, and to
     /// be empty there; the other rows stay.
     pub fn put_net<const N: usize>(&self, net: &mut Net<N>, at: usize)
         requires whole { IsWhole self.now }

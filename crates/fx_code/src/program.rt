@@ -19,7 +19,7 @@ ghost use Rattle.std.specs.Prelude.{
   slice_index,
   All,
 };
-ghost use Rattle.fx_code.specs.Code.{Code, row_at, bare, constant_of, OldIsThere, IsWhole};
+ghost use Rattle.fx_code.specs.Code.{Code, row_at, constant_of, OldIsThere, IsWhole};
 ghost use Rattle.fx_code.specs.Inside.{row_of, RowReadsFit};
 ghost use Rattle.fx_math.specs.Answers.{fault_told};
 ghost use Rattle.fx_math.specs.Words.{WidthFits};
@@ -28,10 +28,11 @@ ghost use Rattle.fx_code.specs.Limits.{start_fault, row_fault, output_fault, is_
 ghost use Rattle.fx_code.specs.NetRows.{class_of};
 
 use crate::checks::{start_fault, terms_fault};
+use crate::dropping::{class_in, constant_in};
 use crate::fault::{LimitOf, ProgramFault};
 use crate::limits::{CODE_ROWS, CODE_TERMS, LONGEST_SHIFT};
 use crate::term::{CodeTerm, Read};
-use fx_eqs::PORTS;
+use fx_eqs::{Mode, PORTS};
 use fx_math::{GREATEST_WIDTH, LEAST_WIDTH};
 use std::alloc::{AllocError, Global};
 use std::marker::Model;
@@ -40,6 +41,7 @@ use std::marker::Model;
 struct ProgramRow {
     width: u8,
     shift: u8,
+    mode: Mode,
     terms: Vec<CodeTerm>,
 }
 
@@ -101,8 +103,14 @@ impl Program {
     }
 
     // The first fault of a row that is to be added.
-    fn row_fault(&self, width: u8, shift: u8, terms: &[CodeTerm]) -> Option<ProgramFault>
-        ensures { result ≡ row_fault self.now (record { width = width; shift = shift; terms = terms.now }) }
+    fn row_fault(
+        &self,
+        width: u8,
+        shift: u8,
+        mode: Mode,
+        terms: &[CodeTerm],
+    ) -> Option<ProgramFault>
+        ensures { result ≡ row_fault self.now (record { width = width; own = record { shift = shift; mode = mode; terms = terms.now } }) }
     {
         if self.rows.len() >= CODE_ROWS {
             return Some(ProgramFault::Limit(LimitOf::Rows, self.rows.len() as i128 + 1));
@@ -123,18 +131,25 @@ impl Program {
         None
     }
 
-    /// Adds a row behind the others. Its error is the first fault, and `NoMemory` only where there is none;
+    /// Adds a row behind the others: the bits of its word, its right shift, how that drops the low places, and its
+    /// terms. Its error is the first fault, and `NoMemory` only where there is none;
     /// a refused row leaves the program unchanged.
-    pub fn add_row(&mut self, width: u8, shift: u8, terms: &[CodeTerm]) -> Result<(), ProgramFault>
+    pub fn add_row(
+        &mut self,
+        width: u8,
+        shift: u8,
+        mode: Mode,
+        terms: &[CodeTerm],
+    ) -> Result<(), ProgramFault>
         ensures ok { OnOk result (self.new ≡ record self.old {
           rows =
-              self.old.rows ++ record { width = width; shift = shift; terms = terms.now } ∷ [];
+              self.old.rows ++ record { width = width; own = record { shift = shift; mode = mode; terms = terms.now } } ∷ [];
         }) }
-        ensures fault { row_fault self.old (record { width = width; shift = shift; terms = terms.now })
+        ensures fault { row_fault self.old (record { width = width; own = record { shift = shift; mode = mode; terms = terms.now } })
             ≡ fault_told is_memory result }
         ensures err { OnErr result (self.new ≡ self.old) }
     {
-        if let Some(fault) = self.row_fault(width, shift, terms) {
+        if let Some(fault) = self.row_fault(width, shift, mode, terms) {
             return Err(fault);
         }
         let count = terms.len();
@@ -144,6 +159,7 @@ impl Program {
         let row = ProgramRow {
             width,
             shift,
+            mode,
             terms,
         };
         match self.rows.push(row) {
@@ -248,7 +264,7 @@ impl Program {
         requires { i < length self.now.rows }
         ensures value { row_of result.now ≡ row_at self.now i }
         ensures fits { RowFits self.now.accumulator (row_of result.now) }
-        ensures few { length (row_of result.now).terms ≤ CODE_TERMS }
+        ensures few { length (row_of result.now).own.terms ≤ CODE_TERMS }
     {
         &self.rows[i]
     }
@@ -266,40 +282,49 @@ impl Program {
     /// Row i's right shift: at most 62, and below the bits of the accumulators.
     pub fn shift(&self, i: usize) -> u8
         requires { i < length self.now.rows }
-        ensures value { result ≡ (row_at self.now i).shift }
+        ensures value { result ≡ (row_at self.now i).own.shift }
         ensures high { result ≤ LONGEST_SHIFT }
         ensures kept { result < self.now.accumulator }
     {
         self.row(i).shift
     }
 
-    /// What row i's accumulator begins with: half of the last place that the shift drops.
-    pub fn constant(&self, i: usize) -> i64
+    /// How row i drops its low places.
+    pub fn mode(&self, i: usize) -> Mode
         requires { i < length self.now.rows }
-        ensures value { result ≡ pos (constant_of (bare (row_at self.now i))) }
-        ensures high { result ≤ℤ pos (2 ^ 61) }
+        ensures { result ≡ (row_at self.now i).own.mode }
     {
-        match self.row(i).shift {
-            0 => 0,
-            shift => power_of_two(shift - 1),
-        }
+        self.row(i).mode
     }
 
-    /// The class of row i: how many half steps its rounding may be off.
+    /// What row i's accumulator begins with: half of the last place that the shift drops where the row rounds to the
+    /// nearest, else 0.
+    pub fn constant(&self, i: usize) -> i64
+        requires { i < length self.now.rows }
+        ensures value { result ≡ pos (constant_of (row_at self.now i).own) }
+        ensures high { result ≤ℤ pos (2 ^ 61) }
+    {
+        let row = self.row(i);
+        constant_in(row.mode, row.shift)
+    }
+
+    /// The class of row i: how many half steps it may be off. Without a right shift none, else one where it rounds to
+    /// the nearest and two where it floors.
     pub fn class(&self, i: usize) -> u8
         requires { i < length self.now.rows }
-        ensures value { result ≡ class_of (bare (row_at self.now i)) }
-        ensures high { result ≤ 1 }
+        ensures value { result ≡ class_of (row_at self.now i).own }
+        ensures high { result ≤ 2 }
     {
-        if self.row(i).shift == 0 { 0 } else { 1 }
+        let row = self.row(i);
+        class_in(row.mode, row.shift)
     }
 
     /// The terms of row i, in their order.
     pub fn terms(&self, i: usize) -> &[CodeTerm]
         requires { i < length self.now.rows }
-        ensures value { result.now ≡ (row_at self.now i).terms }
+        ensures value { result.now ≡ (row_at self.now i).own.terms }
         ensures high { length result.now ≤ CODE_TERMS }
-        ensures fits { All (TermFits (row_at self.now i).shift) result.now }
+        ensures fits { All (TermFits (row_at self.now i).own.shift) result.now }
     {
         &self.row(i).terms
     }
@@ -324,6 +349,7 @@ fn copy_rows(alloc: Global, rows: &[ProgramRow]) -> Result<Vec<ProgramRow>, Allo
         copies.push(ProgramRow {
             width: row.width,
             shift: row.shift,
+            mode: row.mode,
             terms,
         })?;
     }
@@ -353,14 +379,6 @@ fn read_is_there(from: Read, rows: usize) -> bool
         Read::Now(_) => true,
         Read::In(_) => true,
     }
-}
-
-// The power of two with this exponent.
-fn power_of_two(k: u8) -> i64
-    requires { k ≤ LONGEST_SHIFT }
-    ensures { result ≡ pos (2 ^ k) }
-{
-    1i64 << k
 }
 
 /// A law with nothing to run: each program keeps the limits.

@@ -6,7 +6,7 @@ ghost use Rattle.fx_code.specs.Limits.{same_source};
 use crate::limits::{COEFFICIENT_BITS, LONGEST_SHIFT};
 
 /// Where a term reads.
-#[derive(Clone, Copy, Debug, PartialEq, Eq)]
+#[derive(Clone, Copy, PartialEq, Eq)]
 pub enum Read {
     /// The word of a row, of this moment.
     Now(u8),
@@ -17,7 +17,7 @@ pub enum Read {
 }
 
 /// A coefficient times a word, shifted to the left.
-#[derive(Clone, Copy, Debug, PartialEq, Eq)]
+#[derive(Clone, Copy)]
 pub struct CodeTerm {
     /// Below 2^62 in magnitude, shifted to the left too.
     pub coef: i64,

@@ -1,5 +1,5 @@
 -- Sums of terms lie between their ends.
-use Rattle.std.proofs.Common.{◌≡◌, ℕ, suc, ◌+◌, ◌*◌, ◌-◌, ◌/◌, ◌^◌, ◌<◌, ◌≤◌, ℤ, pos, negsuc, neg_ℤ}
+use Rattle.std.proofs.Common.{◌≡◌, ℕ, suc, ◌+◌, ◌-◌, ◌/◌, ◌^◌, ◌<◌, ◌≤◌, ℤ, pos, negsuc, neg_ℤ}
 use Rattle.std.proofs.Common.{◌-ℤ◌, ◌*ℤ◌, ◌≤ℤ◌, Bool, true, false, not, ◌||◌, List, [], ◌∷◌, map, All}
 use Rattle.std.proofs.Common.{refl, arith}
 use Rattle.std.proofs.Math.Nat.{mul-le-mul_left}
@@ -9,7 +9,7 @@ use Rattle.std.proofs.lemmas.Bool.{false≢true}
 use Rattle.std.proofs.lemmas.List.Elements.{All-tail}
 use Rattle.fx_math.specs.Division.{floor_div}
 use Rattle.fx_math.specs.Residue.{FitsBits}
-use Rattle.fx_code.specs.Code.{Row, Code, bare, constant_of, weight}
+use Rattle.fx_code.specs.Code.{Row, Code, constant_of, weight}
 use Rattle.fx_code.specs.declared.term.CodeTerm.{CodeTerm}
 use Rattle.fx_machine.specs.Prepared.{place_of, word_in, limit_of, scaled, scaled_sum, is_outside, depth_of, height_of}
 use Rattle.fx_machine.specs.Prepared.{depth, height, least, most, is_sure, plan_for, sum_of}
@@ -91,16 +91,16 @@ neither false true h = absurd (false≢true h)
 neither false false h = (refl, refl)
 
 -- where the ends are words of a row, so is each of its sums
-pub sure_kept : (p : Code) (words : List ℤ) (row : Row) → AreWithin p words row.terms → is_sure p row ≡ true →
-    is_outside row.width (floor_div (sum_of (plan_for p row) words) (2 ^ row.shift)) ≡ false
+pub sure_kept : (p : Code) (words : List ℤ) (row : Row) → AreWithin p words row.own.terms → is_sure p row ≡ true →
+    is_outside row.width (floor_div (sum_of (plan_for p row) words) (2 ^ row.own.shift)) ≡ false
 sure_kept p words row h sure =
     let ends = neither (is_outside row.width (least p row)) (is_outside row.width (most p row)) sure in
-    let n : ℕ = 2 ^ row.shift in
-    let some : 0 < 2 ^ row.shift = pow_pos row.shift in
+    let n : ℕ = 2 ^ row.own.shift in
+    let some : 0 < 2 ^ row.own.shift = pow_pos row.own.shift in
     let sum : ℤ = sum_of (plan_for p row) words in
-    let low : ℤ = pos (constant_of (bare row)) -ℤ pos (depth p row.terms) in
-    let high : ℤ = pos (constant_of (bare row) + height p row.terms) in
-    let below : low ≤ℤ sum = omega (arith, ints, sum_low p words row.terms h) in
-    let above : sum ≤ℤ high = omega (arith, ints, sum_high p words row.terms h) in
+    let low : ℤ = pos (constant_of row.own) -ℤ pos (depth p row.own.terms) in
+    let high : ℤ = pos (constant_of row.own + height p row.own.terms) in
+    let below : low ≤ℤ sum = omega (arith, ints, sum_low p words row.own.terms h) in
+    let above : sum ≤ℤ high = omega (arith, ints, sum_high p words row.own.terms h) in
     between row.width (least p row) (floor_div sum n) (most p row) ends.0 ends.1 (floor_le low sum n some below)
     (floor_le sum high n some above)

@@ -85,9 +85,9 @@ last_past n s (suc k) j h = fill_past (λ i now. s k i now (last n s k)) n j h
 reads_agree : (p : Code) (u : ℕ → ℕ → ℤ) (k : ℕ) (begun : List ℤ) (i : ℕ) → CodeFits p → Starts p u k begun →
     i < length p.rows → ((j : ℕ) → j < i → word_in (rows_done p begun i) j ≡ fill (filling p u k) i j) →
     All (Agrees (rows_done p begun i) (fill (filling p u k) i) (last (length p.rows) (word_step p u) k) (u k))
-    (row_at p i).terms
+    (row_at p i).own.terms
 reads_agree p u k begun i f s h before m t l =
-    of_source (slice_index_or (row_at p i).terms m t).from ((f.reads i h).sources m t l)
+    of_source (slice_index_or (row_at p i).own.terms m t).from ((f.reads i h).sources m t l)
   where
     of_source : (from : Read) → SourceFits i (length p.inputs) from →
         word_in (rows_done p begun i) (place_of from)
@@ -101,7 +101,7 @@ row_is : (p : Code) (u : ℕ → ℕ → ℤ) (k : ℕ) (begun : List ℤ) (i : 
     sum_of (plan_for p (row_at p i)) (rows_done p begun i) ≡ sum_at p u k i
 row_is p u k begun i f s h before =
     ap (λ x. (plan_for p (row_at p i)).constant +ℤ x)
-    (same_sum _ _ _ _ (row_at p i).terms (reads_agree p u k begun i f s h before))
+    (same_sum _ _ _ _ (row_at p i).own.terms (reads_agree p u k begun i f s h before))
 
 rows_follow : (p : Code) (u : ℕ → ℕ → ℤ) (k : ℕ) (begun : List ℤ) (i : ℕ) → CodeFits p → Starts p u k begun →
     i ≤ length p.rows → (j : ℕ) → j < i → word_in (rows_done p begun i) j ≡ fill (filling p u k) i j
@@ -113,7 +113,7 @@ rows_follow p u k begun (suc i) f s h j l =
       | inl same ↦
           let here : word_of (plan_for p (row_at p i)) (rows_done p begun i)
           ≡ filling p u k i (fill (filling p u k) i) =
-          ap (λ z. wrap (row_at p i).width (floor_div (wrap p.accumulator z) (2 ^ (row_at p i).shift)))
+          ap (λ z. wrap (row_at p i).width (floor_div (wrap p.accumulator z) (2 ^ (row_at p i).own.shift)))
           (row_is p u k begun i f s h before) in
           rw same (get_or-set_same (rows_done p begun i) i _ (pos 0) below ∙ here ∙ sym (fill_last (filling p u k) i))
       | inr other ↦
@@ -131,7 +131,7 @@ pub later_are : (p : Code) (u : ℕ → ℕ → ℤ) (k : ℕ) (begun : List ℤ
     i < length p.rows → (plan_for p (row_at p i)).constant ∷ later_sums (plan_for p (row_at p i)).constant
     (rows_done p begun i) (plan_for p (row_at p i)).terms ≡ sums_at p u k i
 later_are p u k begun i f s h =
-    same_sums _ _ _ _ (plan_for p (row_at p i)).constant (row_at p i).terms
+    same_sums _ _ _ _ (plan_for p (row_at p i)).constant (row_at p i).own.terms
     (reads_agree p u k begun i f s h (rows_follow p u k begun i f s (omega (arith, h))))
 
 pub words_are : (p : Code) (u : ℕ → ℕ → ℤ) (k : ℕ) (begun : List ℤ) → CodeFits p → Starts p u k begun →

@@ -71,34 +71,34 @@ lost_of accumulator width shift sum = is_outside accumulator sum
 
 lost_is : (p : Code) (u : ℕ → ℕ → ℤ) (k : ℕ) (begun : List ℤ) (i : ℕ) → CodeFits p → Starts p u k begun →
     i < length p.rows → lost_at p begun i
-    ≡ lost_of p.accumulator (row_at p i).width (row_at p i).shift (sum_at p u k i)
+    ≡ lost_of p.accumulator (row_at p i).width (row_at p i).own.shift (sum_at p u k i)
 unfolding lost_of
 lost_is p u k begun i f s h =
-    ap (lost_of p.accumulator (row_at p i).width (row_at p i).shift) (sums_are p u k begun i f s h)
+    ap (lost_of p.accumulator (row_at p i).width (row_at p i).own.shift) (sums_are p u k begun i f s h)
 
 exact_from : (p : Code) (u : ℕ → ℕ → ℤ) (k i : ℕ) → 1 ≤ p.accumulator →
-    lost_of p.accumulator (row_at p i).width (row_at p i).shift (sum_at p u k i) ≡ false → IsExact p u k i
+    lost_of p.accumulator (row_at p i).width (row_at p i).own.shift (sum_at p u k i) ≡ false → IsExact p u k i
 unfolding lost_of
 exact_from p u k i h e =
     let sum = sum_at p u k i in
     let parts = or_parts (is_outside p.accumulator sum)
-    (is_outside (row_at p i).width (floor_div (wrap p.accumulator sum) (2 ^ (row_at p i).shift))) e in
+    (is_outside (row_at p i).width (floor_div (wrap p.accumulator sum) (2 ^ (row_at p i).own.shift))) e in
     let same : wrap p.accumulator sum ≡ sum = wrap_inside p.accumulator sum h parts.0 in
     record {
       sum = same;
-      store = subst (λ (z : ℤ). FitsBits (row_at p i).width (floor_div z (2 ^ (row_at p i).shift))) same
+      store = subst (λ (z : ℤ). FitsBits (row_at p i).width (floor_div z (2 ^ (row_at p i).own.shift))) same
           (fits_from (row_at p i).width _ parts.1);
     }
 
 not_lost : (p : Code) (u : ℕ → ℕ → ℤ) (k i : ℕ) → 1 ≤ p.accumulator → IsExact p u k i →
-    lost_of p.accumulator (row_at p i).width (row_at p i).shift (sum_at p u k i) ≡ false
+    lost_of p.accumulator (row_at p i).width (row_at p i).own.shift (sum_at p u k i) ≡ false
 unfolding lost_of
 not_lost p u k i h exact =
     let sum = sum_at p u k i in
     let fits : FitsBits p.accumulator sum =
     subst (FitsBits p.accumulator) exact.sum (wrap_is_bits p.accumulator sum h) in
     let first : is_outside p.accumulator sum ≡ false = inside_from p.accumulator sum fits in
-    let second : is_outside (row_at p i).width (floor_div (wrap p.accumulator sum) (2 ^ (row_at p i).shift))
+    let second : is_outside (row_at p i).width (floor_div (wrap p.accumulator sum) (2 ^ (row_at p i).own.shift))
     ≡ false = rw exact.sum (inside_from (row_at p i).width _ exact.store) in
     rw (first, second) refl
 

@@ -20,7 +20,9 @@ use Rattle.fx_machine.proofs.Bits.{IsWithin, wrap_is_bits, within_bits, within_s
 use Rattle.fx_machine.proofs.Ends.{AreWithin, sure_kept}
 use Rattle.fx_math.specs.Division.{floor_div}
 use Rattle.fx_eqs.specs.declared.limits.TheConstants.{PORTS}
-use Rattle.fx_code.specs.Code.{Row, Code, row_at, bare, half_place, constant_of, weight}
+use Rattle.fx_eqs.specs.declared.mode.Mode.{Mode}
+use Rattle.fx_eqs.specs.declared.mode.Mode.TheVariants.{Nearest, Floor}
+use Rattle.fx_code.specs.Code.{Row, Code, row_at, no_row, constant_in, constant_of, weight}
 use Rattle.fx_code.specs.Fits.{RowFits, SourceFits, CodeFits}
 use Rattle.fx_code.specs.Limits.{term_count}
 use Rattle.fx_machine.specs.Prepared.{place_of, word_in, half_of, limit_of, code_term_at, is_one}
@@ -66,7 +68,7 @@ limit_small p n (Now i) f h s = half_small _ 31 (f.rows i _ (omega arith)).width
 limit_small p n (Old i) f h s =
     elim (cases_lt i (length p.rows)) [
       | inl here ↦ half_small _ 31 (f.rows i _ here).width.high
-      | inr past ↦ let e : row_at p i ≡ record { width = 0; shift = 0; terms = [] } =
+      | inr past ↦ let e : row_at p i ≡ no_row =
           get_or_past p.rows i _ past in rw e (lit≤ tt)
     ]
 limit_small p n (In j) f h s = half_small _ 31 (f.input_widths j 0 s).high
@@ -132,28 +134,33 @@ one_scaled ts t one w =
 wider : (limit width : ℕ) (z : ℤ) → limit ≤ half_of width → IsWithin limit z → FitsBits width z
 wider limit width z h f = record { low = omega (arith, ints, f.low); high = omega (arith, ints, f.high) }
 
+no_constant : (mode : Mode) → constant_in mode 0 ≡ 0
+no_constant Nearest = refl
+no_constant Floor = refl
+
 -- a row that is a word of one source
 copies : (p : Code) (words : List ℤ) (i : ℕ) → CodeFits p → WordsFit p words → i < length p.rows →
     is_copy p (row_at p i) ≡ true → IsCopy (plan_for p (row_at p i)) words
 copies p words i f w h copy =
     let row = row_at p i in
-    let t = code_term_at row.terms 0 in
+    let t = code_term_at row.own.terms 0 in
     let all = both_true _ _ copy in
     let more = both_true _ _ all.1 in
     let word = both_true _ _ more.1 in
     let rest = both_true _ _ word.1 in
-    let shift : row.shift ≡ 0 = eqb-true row.shift 0 all.0 in
-    let one : length row.terms ≡ 1 = eqb-true (length row.terms) 1 more.0 in
+    let shift : row.own.shift ≡ 0 = eqb-true row.own.shift 0 all.0 in
+    let none : constant_of row.own ≡ 0 = rw shift (no_constant row.own.mode) in
+    let one : length row.own.terms ≡ 1 = eqb-true (length row.own.terms) 1 more.0 in
     let left : t.left ≡ 0 = eqb-true t.left 0 rest.0 in
     let narrow : limit_of p t.from ≤ half_of row.width = grind (arith, nat_tests) in
-    let alone : row.terms ≡ t ∷ [] = one_term row.terms one in
+    let alone : row.own.terms ≡ t ∷ [] = one_term row.own.terms one in
     let source = source_within p words i t.from w h ((f.reads i h).sources 0 _ (omega (arith, one))) in
-    let place : first_place (map scaled row.terms) ≡ place_of t.from =
+    let place : first_place (map scaled row.own.terms) ≡ place_of t.from =
     ap (λ (ts : List CodeTerm). first_place (map scaled ts)) alone in
     record {
       shift = shift;
-      constant = rw shift refl;
-      terms = one_scaled row.terms t alone (one_weight t.coef t.left (is_one_from t.coef word.0) left);
+      constant = ap pos none;
+      terms = one_scaled row.own.terms t alone (one_weight t.coef t.left (is_one_from t.coef word.0) left);
       kept = (f.rows i _ h).width_kept;
       word = rw place (wider _ _ _ narrow source);
     }
@@ -203,9 +210,9 @@ pub can_run : (p : Code) (words : List ℤ) (i : ℕ) → CodeFits p → WordsFi
     CanRun (plan_for p (row_at p i)) words
 can_run p words i f w h =
     let row : RowFits p.accumulator (row_at p i) = f.rows i _ h in
-    let ts = (row_at p i).terms in
+    let ts = (row_at p i).own.terms in
     let sources = (f.reads i h).sources in
-    let few : length ts ≤ term_count p.rows = get_or-le-sum_by (λ (x : Row). length x.terms) p.rows i _ h in
+    let few : length ts ≤ term_count p.rows = get_or-le-sum_by (λ (x : Row). length x.own.terms) p.rows i _ h in
     let places : All (λ (t : CodeTerm). place_of t.from < WORD_COUNT) ts =
     All-weaker _ _ (λ (t : CodeTerm) s.
     place_below i (length p.inputs) t.from (omega (arith, f.rows_high, h)) f.inputs_high s) ts sources in
@@ -217,7 +224,7 @@ can_run p words i f w h =
     source_within p words i t.from w h s) ts sources in
     let each : All (λ (t : CodeTerm). (unsigned_abs (weight t) < 2 ^ 62) × (limit_of p t.from ≤ 2 ^ 31)) ts =
     λ k d l. ((row.terms k d l).product, limit_small p i _ f h (sources k d l)) in
-    let constant : constant_of (bare (row_at p i)) ≤ 2 ^ 62 = constant_small (row_at p i).shift row.shift_high in
+    let constant : constant_of (row_at p i).own ≤ 2 ^ 62 = constant_small (row_at p i).own.mode (row_at p i).own.shift row.shift_high in
     let bound = greatest_small p ts each in
     record {
       accumulator_low = f.accumulator_low;
@@ -229,15 +236,16 @@ can_run p words i f w h =
       places = All-map (λ (t : ScaledTerm). t.place < WORD_COUNT) scaled ts places;
       kind = suits (is_copy p (row_at p i)) _ (plan_for p (row_at p i)) words (copies p words i f w h)
           (suits_sum (plan_for p (row_at p i)) words (kept_kind p (row_at p i)) p.accumulator
-          (constant_of (bare (row_at p i)) + greatest p ts) refl f.accumulator_high
+          (constant_of (row_at p i).own + greatest p ts) refl f.accumulator_high
           (omega (arith, magnitudes_le p words ts small)) (omega (arith, constant, bound, few, f.terms))
           (kept_suits (is_sure p (row_at p i)) (plan_for p (row_at p i)) words
           (sure_kept p words (row_at p i) within)));
     }
   where
-    constant_small : (shift : ℕ) → shift ≤ LONGEST_SHIFT → half_place shift ≤ 2 ^ 62
-    constant_small zero s = omega arith
-    constant_small (suc r) s = let e : r ≤ 62 = omega arith in pow-le-pow_right (lit< tt) e
+    constant_small : (mode : Mode) (shift : ℕ) → shift ≤ LONGEST_SHIFT → constant_in mode shift ≤ 2 ^ 62
+    constant_small Floor shift s = omega arith
+    constant_small Nearest zero s = omega arith
+    constant_small Nearest (suc r) s = let e : r ≤ 62 = omega arith in pow-le-pow_right (lit< tt) e
 
 pub count_of : (p : Code) (rows : List PreparedRow) → ArePrepared p rows → length rows ≡ length p.rows
 count_of p rows same = let e = ap length same in rw (length-map, length-map) at e

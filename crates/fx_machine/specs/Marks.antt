@@ -3,7 +3,7 @@ use Rattle.std.specs.Prelude.{◌≡◌, ◌↔◌, ℕ, ◌<◌, ◌≤◌, ℤ
 use Rattle.std.specs.Int.{bit_at}
 use Rattle.fx_math.specs.Residue.{FitsBits}
 use Rattle.fx_math.specs.Unroll.{last, so_far}
-use Rattle.fx_code.specs.Code.{Code, row_at, bare, constant_of, weight}
+use Rattle.fx_code.specs.Code.{Code, row_at, constant_of, weight}
 use Rattle.fx_code.specs.Run.{word_read, word_step}
 use Rattle.fx_code.specs.declared.term.CodeTerm.{CodeTerm}
 
@@ -16,8 +16,8 @@ sums_from sum now old input (t ∷ ts) =
 -- the whole-number sums of row i at moment k: after its constant, and after each of its terms in their order
 abbrev pub sums_at : Code → (ℕ → ℕ → ℤ) → ℕ → ℕ → List ℤ
 sums_at p u k i =
-    sums_from (pos (constant_of (bare (row_at p i)))) (so_far (length p.rows) (word_step p u) k i)
-    (last (length p.rows) (word_step p u) k) (u k) (row_at p i).terms
+    sums_from (pos (constant_of (row_at p i).own)) (so_far (length p.rows) (word_step p u) k i)
+    (last (length p.rows) (word_step p u) k) (u k) (row_at p i).own.terms
 
 -- none of these sums lies outside the accumulator
 abbrev pub StaysInside : Code → (ℕ → ℕ → ℤ) → ℕ → ℕ → Type 0

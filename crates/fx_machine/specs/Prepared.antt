@@ -8,7 +8,7 @@ use Rattle.std.specs.List.{list_any}
 use Rattle.fx_math.specs.Division.{floor_div}
 use Rattle.fx_math.specs.Residue.{wrap, FitsBits}
 use Rattle.fx_math.specs.Words.{WidthFits}
-use Rattle.fx_code.specs.Code.{Row, Code, row_at, bare, constant_of, weight}
+use Rattle.fx_code.specs.Code.{Row, Code, row_at, constant_of, weight}
 use Rattle.fx_code.specs.declared.term.CodeTerm.{CodeTerm}
 use Rattle.fx_code.specs.declared.term.Read.{Read}
 use Rattle.fx_code.specs.declared.term.Read.TheVariants.{Now, Old, In}
@@ -58,7 +58,7 @@ is_word p width t = is_one t.coef && (nat_eq t.left 0 && nat_le (limit_of p t.fr
 -- a row is the word of one source that is no wider
 abbrev pub is_copy : Code → Row → Bool
 is_copy p row =
-    nat_eq row.shift 0 && (nat_eq (length row.terms) 1 && is_word p row.width (code_term_at row.terms 0))
+    nat_eq row.own.shift 0 && (nat_eq (length row.own.terms) 1 && is_word p row.width (code_term_at row.own.terms 0))
 
 -- a number is not one of those of which so many lie below 0 and as many from 0 on
 abbrev pub is_beyond : ℕ → ℤ → Bool
@@ -92,10 +92,10 @@ height p (t ∷ ts) = height_of (weight t) (limit_of p t.from) + height p ts
 
 -- the least and the greatest sum of a row, floored by its shift
 abbrev pub least : Code → Row → ℤ
-least p row = floor_div (pos (constant_of (bare row)) -ℤ pos (depth p row.terms)) (2 ^ row.shift)
+least p row = floor_div (pos (constant_of row.own) -ℤ pos (depth p row.own.terms)) (2 ^ row.own.shift)
 
 abbrev pub most : Code → Row → ℤ
-most p row = floor_div (pos (constant_of (bare row) + height p row.terms)) (2 ^ row.shift)
+most p row = floor_div (pos (constant_of row.own + height p row.own.terms)) (2 ^ row.own.shift)
 
 -- both are words of the row
 abbrev pub is_sure : Code → Row → Bool
@@ -121,7 +121,7 @@ scaled t = record { multiplier = weight t; place = place_of t.from }
 abbrev pub kind_of : Code → Row → Kind
 kind_of p row =
     cond (is_copy p row) Copy
-    (sum_kind p.accumulator (constant_of (bare row) + greatest p row.terms) (kept_kind p row))
+    (sum_kind p.accumulator (constant_of row.own + greatest p row.own.terms) (kept_kind p row))
 
 -- what a row needs to be computed
 pub record Plan : Type 0 where
@@ -154,10 +154,10 @@ plan_for p row =
       accumulator = p.accumulator;
       width = row.width;
       half = half_of row.width;
-      shift = row.shift;
+      shift = row.own.shift;
       kind = kind_of p row;
-      constant = pos (constant_of (bare row));
-      terms = map scaled row.terms;
+      constant = pos (constant_of row.own);
+      terms = map scaled row.own.terms;
     }
 
 -- ---- sums over the words

@@ -3,8 +3,6 @@
 
 mod low_bits;
 mod machine;
-#[cfg(test)]
-mod machine_tests;
 mod moment;
 mod places;
 mod prepared;

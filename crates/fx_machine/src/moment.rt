@@ -11,7 +11,7 @@ use fx_code::{CODE_ROWS, Program};
 use fx_eqs::PORTS;
 
 /// What went beyond its bits in one moment. Bit i tells of row i, and no further bit is set.
-#[derive(Clone, Copy, Debug, PartialEq, Eq)]
+#[derive(Clone, Copy)]
 pub struct Marks {
     /// A sum on the way, after the constant or a term, was outside the accumulator.
     pub partial: u64,

@@ -125,7 +125,7 @@ fn times(magnitude: u128, limit: u64) -> u128
 // The greatest sum of the magnitudes of the terms of row i.
 fn greatest(program: &Program, i: usize) -> u128
     requires { i < length program.now.rows }
-    ensures value { result ≡ greatest program.now (row_at program.now i).terms }
+    ensures value { result ≡ greatest program.now (row_at program.now i).own.terms }
     ensures bound { result ≤ CODE_TERMS * 2 ^ 93 }
 {
     let mut sum = 0;
@@ -200,7 +200,7 @@ fn height_of(weight: i128, half: u64) -> u128
 // How far below 0 the sum of the terms of row i may lie.
 fn depth(program: &Program, i: usize) -> u128
     requires { i < length program.now.rows }
-    ensures value { result ≡ depth program.now (row_at program.now i).terms }
+    ensures value { result ≡ depth program.now (row_at program.now i).own.terms }
     ensures bound { result ≤ CODE_TERMS * 2 ^ 93 }
 {
     let mut sum = 0;
@@ -213,7 +213,7 @@ fn depth(program: &Program, i: usize) -> u128
 // How far above 0 the sum of the terms of row i may lie.
 fn height(program: &Program, i: usize) -> u128
     requires { i < length program.now.rows }
-    ensures value { result ≡ height program.now (row_at program.now i).terms }
+    ensures value { result ≡ height program.now (row_at program.now i).own.terms }
     ensures bound { result ≤ CODE_TERMS * 2 ^ 93 }
 {
     let mut sum = 0;
@@ -293,7 +293,7 @@ fn scaled(term: &CodeTerm) -> ScaledTerm
 // The terms of row i with their coefficients shifted to the left, in their order.
 fn scaled_terms(alloc: Global, program: &Program, i: usize) -> Result<Vec<ScaledTerm>, AllocError>
     requires { i < length program.now.rows }
-    ensures { IfOk result (λ v. v.items ≡ map scaled (row_at program.now i).terms) }
+    ensures { IfOk result (λ v. v.items ≡ map scaled (row_at program.now i).own.terms) }
 {
     let mut terms = Vec::new(alloc);
     for term in program.terms(i) {

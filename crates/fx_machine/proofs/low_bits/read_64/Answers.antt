@@ -1,7 +1,7 @@
 use Rattle.std.proofs.Common.{◌≡◌, false, ◌∙◌, sym, arith}
 use Rattle.std.proofs.lemmas.Int.{ints}
 use Rattle.std.specs.Int.{w64, cast_unsigned as of_z, cast_signed as to_z}
-use Rattle.fx_machine.specs.Prepared.{is_beyond, is_outside}
+use Rattle.fx_machine.specs.Prepared.{is_outside}
 use Rattle.fx_machine.proofs.Bits.{wrap_inside, half_small}
 use Rattle.fx_machine.proofs.low_bits.read_64.Goals as goal
 

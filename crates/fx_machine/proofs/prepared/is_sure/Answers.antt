@@ -2,7 +2,7 @@ use Rattle.std.proofs.Common.{◌≡◌, ℕ, ◌+◌, ◌^◌, ℤ, pos, ◌-�
 use Rattle.std.proofs.lemmas.Int.{ints}
 use Rattle.std.specs.Int.{w128, cast_unsigned as of_z, cast_signed as to_z}
 use Rattle.fx_math.specs.Division.{floor_div}
-use Rattle.fx_code.specs.Code.{row_at, bare, constant_of}
+use Rattle.fx_code.specs.Code.{row_at, constant_of}
 use Rattle.fx_machine.specs.Prepared.{is_outside, depth, height, least, most}
 use Rattle.fx_machine.proofs.prepared.is_sure.Goals as goal
 
@@ -16,9 +16,9 @@ pub returns : goal.returns
 returns c =
     let p = c.args.program.now in
     let row = row_at p c.args.i in
-    let constant = constant_of (bare row) in
+    let constant = constant_of row.own in
     let low : c.quotient-least.result ≡ least p row =
-    quotient_is _ _ (pos constant -ℤ pos (depth p row.terms)) _ row.shift c.quotient-least.ensures
+    quotient_is _ _ (pos constant -ℤ pos (depth p row.own.terms)) _ row.own.shift c.quotient-least.ensures
     (omega (
       arith,
       ints,
@@ -29,7 +29,7 @@ returns c =
       c.depth.ensures.bound,
     )) c.shift.ensures.value in
     let high : c.quotient-most.result ≡ most p row =
-    quotient_is _ _ (pos (constant + height p row.terms)) _ row.shift c.quotient-most.ensures
+    quotient_is _ _ (pos (constant + height p row.own.terms)) _ row.own.shift c.quotient-most.ensures
     (omega (
       arith,
       ints,

@@ -1,7 +1,7 @@
 use Rattle.std.proofs.Common.{◌≤◌, ◌^◌, arith, lit<}
 use Rattle.std.proofs.Math.Nat.{pow-le-pow_right}
 use Rattle.std.proofs.lemmas.Int.{ints}
-use Rattle.fx_code.proofs.program.power_of_two.Goals as goal
+use Rattle.fx_code.proofs.dropping.power_of_two.Goals as goal
 
 pub returns : goal.returns
 returns c =
