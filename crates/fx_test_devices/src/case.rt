@@ -44,14 +44,14 @@ pub struct Outcome {
 }
 
 impl Outcome {
-    /// How it ended.
-    pub fn status(&self) -> Status {
-        self.status
+    /// Whether it ended so.
+    pub fn ended(&self, status: Status) -> bool {
+        self.status.number() == status.number()
     }
 
     /// Whether it ended so, with this text.
     pub fn is(&self, status: Status, text: &[u8]) -> bool {
-        self.status == status && self.out.bytes() == text
+        self.ended(status) && self.out.bytes() == text
     }
 
     /// Whether the file of this name holds this content, of at most 1024 bytes.
@@ -82,8 +82,8 @@ pub fn run_on(
     Ok(Outcome { status, shelf, out })
 }
 
-// The words of a command line, the program's name first.
-fn words_of(alloc: Global, texts: &[&str]) -> Result<Vec<String>, AllocError> {
+/// The words of a command line, the program's name first.
+pub fn words_of(alloc: Global, texts: &[&str]) -> Result<Vec<String>, AllocError> {
     let mut words = Vec::new(alloc);
     for text in texts {
         words.push(String::from_str(alloc, text)?)?;
@@ -91,8 +91,8 @@ fn words_of(alloc: Global, texts: &[&str]) -> Result<Vec<String>, AllocError> {
     Ok(words)
 }
 
-// Files in memory.
-fn shelf_of(alloc: Global, files: &[File<'_>]) -> Result<MemShelf, AllocError> {
+/// Files in memory.
+pub fn shelf_of(alloc: Global, files: &[File<'_>]) -> Result<MemShelf, AllocError> {
     let mut shelf = MemShelf::new(alloc)?;
     for (name, bytes) in files {
         shelf.add(name, bytes)?;

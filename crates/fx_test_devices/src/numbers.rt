@@ -1,4 +1,4 @@
-//! The job of a number, with failing devices, and words that are no number.
+//! The job of a number, with failing devices.
 use crate::case::{Fault, run_on};
 use crate::devices::first_put;
 use crate::jobs::LARGE;
@@ -19,27 +19,5 @@ fn each_failed_put_of_a_job_leaves_the_bytes_before(rt: HostRuntime) -> Result<(
     assert_eq!(rt; first_put(alloc, &LARGE, 32)?, None);
     let none = [Fault::PutPiece(0)];
     assert!(rt; run_on(alloc, LARGE.words, LARGE.files, &none)?.is(Status::WriteFault, b""));
-    Ok(())
-}
-
-#[test]
-fn words_that_are_no_number_are_no_command(rt: HostRuntime) -> Result<(), Fail> {
-    let alloc = rt.alloc();
-    for word in [
-        "",
-        "one",
-        "+1",
-        "-1",
-        "1 ",
-        "0x1",
-        "4294967296",
-        "00000000001",
-    ] {
-        let ended = run_on(alloc, &["fixif", "large", word], &[], &[])?;
-        assert_eq!(rt; ended.status(), Status::Usage);
-    }
-    // Zeros before others are none of the number.
-    let ended = run_on(alloc, &["fixif", "large", "0000000001"], &[], &[])?;
-    assert!(rt; ended.is(Status::Done, LARGE.text));
     Ok(())
 }
