@@ -52,6 +52,9 @@ static inline int32_t fixif_word(struct fixif_state *state, const int32_t *in, i
 #define IN(u, width) FIXIF_BEGIN_##u const int32_t u = fixif_word(state, in, FIXIF_PLACE_##u, width)
 #define MUL(coef, word, left) ((uint64_t)(coef) * (uint64_t)(word) << (left))
 #define SAR(a, shift) fixif_floor(fixif_signed(a, FIXIF_BITS), shift)
+/* The same value. A row with SAR has a half step in its constant, and so is rounded to the nearest; one with FLR has
+ * none, and so is floored. */
+#define FLR(a, shift) SAR(a, shift)
 #define LOW(x, width) ((int32_t)fixif_signed((uint64_t)(x), width))
 #define OUT(output, word) (out[output] = (word))
 

@@ -137,57 +137,25 @@ home_of _ = None
 
 known_at_home : (k : Key) (home other : Form) → home_of k ≡ Some home →
     (home ≡ other) ⊎ (is_known (known_keys other) (own_name k) ≡ false)
-known_at_home key.Form home other h = absurd cc
-known_at_home key.InputLow home other h = absurd cc
-known_at_home key.Inputs home other h = absurd cc
-known_at_home key.InputsWidth home other h = absurd cc
-known_at_home key.InputsBound home other h = absurd cc
-known_at_home key.Outputs home other h = absurd cc
-known_at_home key.OutputsWidth home other h = absurd cc
-known_at_home key.OutputsLow home other h = absurd cc
-known_at_home key.OutputsError home other h = absurd cc
 known_at_home key.B home form.Tf h = inl cc
-known_at_home key.B home form.Sos h = inr refl
-known_at_home key.B home form.Ss h = inr refl
-known_at_home key.B home form.Lattice h = inr refl
+known_at_home key.B home _ h = inr refl
 known_at_home key.A home form.Tf h = inl cc
-known_at_home key.A home form.Sos h = inr refl
-known_at_home key.A home form.Ss h = inr refl
-known_at_home key.A home form.Lattice h = inr refl
-known_at_home key.Sections home form.Tf h = inr refl
+known_at_home key.A home _ h = inr refl
 known_at_home key.Sections home form.Sos h = inl cc
-known_at_home key.Sections home form.Ss h = inr refl
-known_at_home key.Sections home form.Lattice h = inr refl
-known_at_home key.MatA home form.Tf h = inr refl
-known_at_home key.MatA home form.Sos h = inr refl
+known_at_home key.Sections home _ h = inr refl
 known_at_home key.MatA home form.Ss h = inl cc
-known_at_home key.MatA home form.Lattice h = inr refl
-known_at_home key.MatB home form.Tf h = inr refl
-known_at_home key.MatB home form.Sos h = inr refl
+known_at_home key.MatA home _ h = inr refl
 known_at_home key.MatB home form.Ss h = inl cc
-known_at_home key.MatB home form.Lattice h = inr refl
-known_at_home key.MatC home form.Tf h = inr refl
-known_at_home key.MatC home form.Sos h = inr refl
+known_at_home key.MatB home _ h = inr refl
 known_at_home key.MatC home form.Ss h = inl cc
-known_at_home key.MatC home form.Lattice h = inr refl
-known_at_home key.MatD home form.Tf h = inr refl
-known_at_home key.MatD home form.Sos h = inr refl
+known_at_home key.MatC home _ h = inr refl
 known_at_home key.MatD home form.Ss h = inl cc
-known_at_home key.MatD home form.Lattice h = inr refl
-known_at_home key.K home form.Tf h = inr refl
-known_at_home key.K home form.Sos h = inr refl
-known_at_home key.K home form.Ss h = inr refl
+known_at_home key.MatD home _ h = inr refl
 known_at_home key.K home form.Lattice h = inl cc
-known_at_home key.V home form.Tf h = inr refl
-known_at_home key.V home form.Sos h = inr refl
-known_at_home key.V home form.Ss h = inr refl
+known_at_home key.K home _ h = inr refl
 known_at_home key.V home form.Lattice h = inl cc
-known_at_home key.Structure home other h = absurd cc
-known_at_home key.Accumulator home other h = absurd cc
-known_at_home key.Word home other h = absurd cc
-known_at_home key.Guards home other h = absurd cc
-known_at_home key.Fractions home other h = absurd cc
-known_at_home key.Lengths home other h = absurd cc
+known_at_home key.V home _ h = inr refl
+known_at_home _ home other h = absurd cc
 
 -- where a key of coefficients is there, the form is its own
 pub at_home : (file : Members) (f : Filter) (k : Key) (home : Form) (v : Data) → Describes file f →

@@ -90,45 +90,17 @@ no_array_whole v vs list h =
 
 -- the keys of inputs and outputs are none of a file's own table
 inner_key : (k : Key) (list : Key) (g : Form) → parent_of k ≡ Some list → is_known (known_keys g) (own_name k) ≡ false
-inner_key key.Form list g h = absurd cc
-inner_key key.InputLow list g h = absurd cc
-inner_key key.Inputs list g h = absurd cc
 inner_key key.InputsWidth list form.Tf h = refl
-inner_key key.InputsWidth list form.Sos h = refl
-inner_key key.InputsWidth list form.Ss h = refl
-inner_key key.InputsWidth list form.Lattice h = refl
+inner_key key.InputsWidth list _ h = refl
 inner_key key.InputsBound list form.Tf h = refl
-inner_key key.InputsBound list form.Sos h = refl
-inner_key key.InputsBound list form.Ss h = refl
-inner_key key.InputsBound list form.Lattice h = refl
-inner_key key.Outputs list g h = absurd cc
+inner_key key.InputsBound list _ h = refl
 inner_key key.OutputsWidth list form.Tf h = refl
-inner_key key.OutputsWidth list form.Sos h = refl
-inner_key key.OutputsWidth list form.Ss h = refl
-inner_key key.OutputsWidth list form.Lattice h = refl
+inner_key key.OutputsWidth list _ h = refl
 inner_key key.OutputsLow list form.Tf h = refl
-inner_key key.OutputsLow list form.Sos h = refl
-inner_key key.OutputsLow list form.Ss h = refl
-inner_key key.OutputsLow list form.Lattice h = refl
+inner_key key.OutputsLow list _ h = refl
 inner_key key.OutputsError list form.Tf h = refl
-inner_key key.OutputsError list form.Sos h = refl
-inner_key key.OutputsError list form.Ss h = refl
-inner_key key.OutputsError list form.Lattice h = refl
-inner_key key.B list g h = absurd cc
-inner_key key.A list g h = absurd cc
-inner_key key.Sections list g h = absurd cc
-inner_key key.MatA list g h = absurd cc
-inner_key key.MatB list g h = absurd cc
-inner_key key.MatC list g h = absurd cc
-inner_key key.MatD list g h = absurd cc
-inner_key key.K list g h = absurd cc
-inner_key key.V list g h = absurd cc
-inner_key key.Structure list g h = absurd cc
-inner_key key.Accumulator list g h = absurd cc
-inner_key key.Word list g h = absurd cc
-inner_key key.Guards list g h = absurd cc
-inner_key key.Fractions list g h = absurd cc
-inner_key key.Lengths list g h = absurd cc
+inner_key key.OutputsError list _ h = refl
+inner_key _ list g h = absurd cc
 
 -- ---- of a described table
 
@@ -202,44 +174,26 @@ module _ (file : Members) (f : Filter) (d : Describes file f) where
   pub none_misshapen : (k : Key) (got wanted : ℕ) → IsMisshapen file k got wanted → ⊥
   none_misshapen key.Form got wanted (differ, inl (other, count, empty, one)) =
       text_count key.Form got refl refl count
-  none_misshapen key.Form got wanted (differ, inr (inl h)) = absurd h.fixed
-  none_misshapen key.Form got wanted (differ, inr (inr h)) = absurd h.fixed
   none_misshapen key.Structure got wanted (differ, inl (other, count, empty, one)) =
       text_count key.Structure got refl refl count
-  none_misshapen key.Structure got wanted (differ, inr (inl h)) = absurd h.fixed
-  none_misshapen key.Structure got wanted (differ, inr (inr h)) = absurd h.fixed
+  none_misshapen key.Rounding got wanted (differ, inl (other, count, empty, one)) =
+      text_count key.Rounding got refl refl count
   none_misshapen key.InputLow got wanted (differ, inl (other, count, empty, one)) =
       whole_count key.InputLow got refl refl count
-  none_misshapen key.InputLow got wanted (differ, inr (inl h)) = absurd h.fixed
-  none_misshapen key.InputLow got wanted (differ, inr (inr h)) = absurd h.fixed
   none_misshapen key.Accumulator got wanted (differ, inl (other, count, empty, one)) =
       whole_count key.Accumulator got refl refl count
-  none_misshapen key.Accumulator got wanted (differ, inr (inl h)) = absurd h.fixed
-  none_misshapen key.Accumulator got wanted (differ, inr (inr h)) = absurd h.fixed
   none_misshapen key.Word got wanted (differ, inl (other, count, empty, one)) =
       whole_count key.Word got refl refl count
-  none_misshapen key.Word got wanted (differ, inr (inl h)) = absurd h.fixed
-  none_misshapen key.Word got wanted (differ, inr (inr h)) = absurd h.fixed
   none_misshapen key.InputsWidth got wanted (differ, inl (other, count, empty, one)) =
       inner_count key.InputsWidth key.Inputs got refl count
-  none_misshapen key.InputsWidth got wanted (differ, inr (inl h)) = absurd h.fixed
-  none_misshapen key.InputsWidth got wanted (differ, inr (inr h)) = absurd h.fixed
   none_misshapen key.InputsBound got wanted (differ, inl (other, count, empty, one)) =
       inner_count key.InputsBound key.Inputs got refl count
-  none_misshapen key.InputsBound got wanted (differ, inr (inl h)) = absurd h.fixed
-  none_misshapen key.InputsBound got wanted (differ, inr (inr h)) = absurd h.fixed
   none_misshapen key.OutputsWidth got wanted (differ, inl (other, count, empty, one)) =
       inner_count key.OutputsWidth key.Outputs got refl count
-  none_misshapen key.OutputsWidth got wanted (differ, inr (inl h)) = absurd h.fixed
-  none_misshapen key.OutputsWidth got wanted (differ, inr (inr h)) = absurd h.fixed
   none_misshapen key.OutputsLow got wanted (differ, inl (other, count, empty, one)) =
       inner_count key.OutputsLow key.Outputs got refl count
-  none_misshapen key.OutputsLow got wanted (differ, inr (inl h)) = absurd h.fixed
-  none_misshapen key.OutputsLow got wanted (differ, inr (inr h)) = absurd h.fixed
   none_misshapen key.OutputsError got wanted (differ, inl (other, count, empty, one)) =
       inner_count key.OutputsError key.Outputs got refl count
-  none_misshapen key.OutputsError got wanted (differ, inr (inl h)) = absurd h.fixed
-  none_misshapen key.OutputsError got wanted (differ, inr (inr h)) = absurd h.fixed
   none_misshapen key.Inputs got wanted (differ, inl (other, count, empty, one)) =
       no_zero m got d.inputs.count.some (inputs_count got count) empty
   none_misshapen key.Inputs got wanted (differ, inr (inl h)) =
@@ -247,7 +201,6 @@ module _ (file : Members) (f : Filter) (d : Describes file f) where
       let one = one_each (form_of f.coefficients) m p d.counts
       (λ same. h.fixed.0 (is ∙ same)) in
       differ (sym (inputs_count got h.found) ∙ one.0 ∙ sym h.fixed.1)
-  none_misshapen key.Inputs got wanted (differ, inr (inr h)) = absurd h.fixed
   none_misshapen key.Outputs got wanted (differ, inl (other, count, empty, one)) =
       no_zero p got d.outputs.count.some (outputs_count got count) empty
   none_misshapen key.Outputs got wanted (differ, inr (inl h)) =
@@ -255,34 +208,22 @@ module _ (file : Members) (f : Filter) (d : Describes file f) where
       let one = one_each (form_of f.coefficients) m p d.counts
       (λ same. h.fixed.0 (is ∙ same)) in
       differ (sym (outputs_count got h.found) ∙ one.1 ∙ sym h.fixed.1)
-  none_misshapen key.Outputs got wanted (differ, inr (inr h)) = absurd h.fixed
   none_misshapen key.Guards got wanted (differ, inl (other, count, empty, one)) =
       no_zero got got (naturals_count key.Guards f.settings.guards got d.settings.guards count).some refl empty
-  none_misshapen key.Guards got wanted (differ, inr (inl h)) = absurd h.fixed
-  none_misshapen key.Guards got wanted (differ, inr (inr h)) = absurd h.fixed
   none_misshapen key.Fractions got wanted (differ, inl (other, count, empty, one)) =
       no_zero got got (naturals_count key.Fractions f.settings.fractions got d.settings.fractions count).some refl empty
-  none_misshapen key.Fractions got wanted (differ, inr (inl h)) = absurd h.fixed
-  none_misshapen key.Fractions got wanted (differ, inr (inr h)) = absurd h.fixed
   none_misshapen key.Lengths got wanted (differ, inl (other, count, empty, one)) =
       no_zero got got (naturals_count key.Lengths f.settings.lengths got d.settings.lengths count).some refl empty
-  none_misshapen key.Lengths got wanted (differ, inr (inl h)) = absurd h.fixed
-  none_misshapen key.Lengths got wanted (differ, inr (inr h)) = absurd h.fixed
   none_misshapen key.B got wanted (differ, inl (other, count, empty, one)) =
       let (b, a, is) = transfer_of m p file f.coefficients d.coefficients (home key.B form.Tf got refl count) in
       no_zero (length b) got is.numerator.count.some (numerals_count key.B b got is.numerator.entries count) empty
-  none_misshapen key.B got wanted (differ, inr (inl h)) = absurd h.fixed
-  none_misshapen key.B got wanted (differ, inr (inr h)) = absurd h.fixed
   none_misshapen key.A got wanted (differ, inl (other, count, empty, one)) =
       let (b, a, is) = transfer_of m p file f.coefficients d.coefficients (home key.A form.Tf got refl count) in
       no_zero (length a) got is.denominator.count.some
       (numerals_count key.A a got is.denominator.entries count) empty
-  none_misshapen key.A got wanted (differ, inr (inl h)) = absurd h.fixed
-  none_misshapen key.A got wanted (differ, inr (inr h)) = absurd h.fixed
   none_misshapen key.Sections got wanted (differ, inl (other, count, empty, one)) =
       let (cs, is) = cascade_of m p file f.coefficients d.coefficients (home key.Sections form.Sos got refl count) in
       no_zero (length is.rows) got is.count.some (rows_count key.Sections is.rows got is.held count) empty
-  none_misshapen key.Sections got wanted (differ, inr (inl h)) = absurd h.fixed
   none_misshapen key.Sections got wanted (differ, inr (inr h)) =
       let here = row_home key.Sections form.Sos got refl h.found in
       let (cs, is) = cascade_of m p file f.coefficients d.coefficients here in
@@ -291,7 +232,6 @@ module _ (file : Members) (f : Filter) (d : Describes file f) where
       let s = space_of m p file f.coefficients d.coefficients (home key.MatA form.Ss got refl count) in
       no_zero s.n got s.space.states.some
       (sym s.space.state.high ∙ rows_count key.MatA s.space.state.rows got s.space.state.held count) empty
-  none_misshapen key.MatA got wanted (differ, inr (inl h)) = absurd h.fixed
   none_misshapen key.MatA got wanted (differ, inr (inr h)) =
       let here = row_home key.MatA form.Ss got refl h.found in
       let s = space_of m p file f.coefficients d.coefficients here in
@@ -338,8 +278,6 @@ module _ (file : Members) (f : Filter) (d : Describes file f) where
       ∙ inputs_count wanted h.fixed)
   none_misshapen key.K got wanted (differ, inl (other, count, empty, one)) =
       other refl
-  none_misshapen key.K got wanted (differ, inr (inl h)) = absurd h.fixed
-  none_misshapen key.K got wanted (differ, inr (inr h)) = absurd h.fixed
   none_misshapen key.V got wanted (differ, inl (other, count, empty, one)) =
       let (ks, vs, is) = lattice_of m p file f.coefficients d.coefficients (home key.V form.Lattice got refl count) in
       let more = is.one_more in
@@ -350,4 +288,5 @@ module _ (file : Members) (f : Filter) (d : Describes file f) where
       let same : length ks ≡ order = numerals_count key.K ks order is.reflections taps in
       differ (sym (numerals_count key.V vs got is.taps h.found) ∙ is.one_more
       ∙ ap (λ (n : ℕ). n + 1) same ∙ sym one_more)
-  none_misshapen key.V got wanted (differ, inr (inr h)) = absurd h.fixed
+  none_misshapen _ got wanted (differ, inr (inl h)) = absurd h.fixed
+  none_misshapen _ got wanted (differ, inr (inr h)) = absurd h.fixed

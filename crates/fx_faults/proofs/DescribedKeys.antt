@@ -16,14 +16,16 @@ use Rattle.fx_files.specs.Coefficients.{form_of}
 use Rattle.fx_files.specs.Describes.{DescribesInput, DescribesOutput}
 use Rattle.fx_files.specs.Describes.{HoldsForm, Describes}
 use Rattle.fx_files.specs.Filter.{Filter}
-use Rattle.fx_files.specs.Forms.{form_text, structure_text, default_structure, known_keys}
-use Rattle.fx_files.specs.Holds.{value_at, Each, IsListOf, IsTableOf, HoldsInteger}
+use Rattle.fx_files.specs.Forms.{form_text, structure_text, mode_text, default_structure, known_keys}
+use Rattle.fx_files.specs.Holds.{value_at, Each, IsListOf, IsTableOf, IsWordOf, HoldsWord, HoldsInteger}
 use Rattle.fx_files.specs.Holds.{IsNaturalOf, AreNaturals, HoldsNaturals, IsNumeralOf}
 use Rattle.fx_files.specs.Ports.{top_word}
 use Rattle.fx_files.specs.declared.forms.Form.{Form}
 use Rattle.fx_files.specs.declared.forms.Form.TheVariants as form
 use Rattle.fx_files.specs.declared.forms.Structure.{Structure}
 use Rattle.fx_files.specs.declared.forms.Structure.TheVariants as structure
+use Rattle.fx_eqs.specs.declared.mode.Mode.{Mode}
+use Rattle.fx_eqs.specs.declared.mode.Mode.TheVariants as mode
 use Rattle.fx_files.proofs.Steps.{and_some, some_and}
 use Rattle.fx_faults.specs.Kinds as kind
 use Rattle.fx_faults.specs.Kinds.{Kind, ListOf, kind_of, HasKind, EachEntry}
@@ -92,6 +94,22 @@ other_structure text structure.Fir is all = all 3 text (lit< tt) is
 other_structure text structure.Lattice is all = all 4 text (lit< tt) is
 other_structure text structure.Ss is all = all 5 text (lit< tt) is
 
+other_mode : (text : List ℕ) (m : Mode) → text ≡ mode_text m → ¬ All (λ word. text ≢ word) (words_of key.Rounding)
+other_mode text mode.Nearest is all = all 0 text (lit< tt) is
+other_mode text mode.Floor is all = all 1 text (lit< tt) is
+
+-- the text at a key spells its value, where the key is there
+spelled_as : {A : Type 0} (k : Key) (spelled : A → List ℕ) (default : A) (t : Members) (x : A) (text : List ℕ) →
+    HoldsWord k spelled default t x → value_at k t ≡ Some (string text) → text ≡ spelled x
+spelled_as k spelled default t x text h there =
+    let is : ◌≡◌ {A = Option (List ℕ)} (Some text) (Some (spelled x)) =
+    said (x ≡ default) (value_at k t) (IsWordOf spelled x) (string text) there h in cc
+
+word_kind : {A : Type 0} (k : Key) (spelled : A → List ℕ) (default : A) (t : Members) (x : A) (v : Data) →
+    HoldsWord k spelled default t x → value_at k t ≡ Some v → HasKind kind.Text v
+word_kind k spelled default t x v h there =
+    is_here (as_str v) (spelled x) (said (x ≡ default) (value_at k t) (IsWordOf spelled x) v there h)
+
 -- ---- of a described table
 
 module _ (file : Members) (f : Filter) (d : Describes file f) where
@@ -156,15 +174,7 @@ module _ (file : Members) (f : Filter) (d : Describes file f) where
   none_missing key.V h =
       let (k, v, is) = lattice_of m p file f.coefficients d.coefficients (form_here form.Lattice h.required) in
       is_there (value_at key.V file) _ is.taps (own_absent key.V h.owner h.stands h.absent)
-  none_missing key.InputLow h = absurd h.required
-  none_missing key.InputsBound h = absurd h.required
-  none_missing key.OutputsLow h = absurd h.required
-  none_missing key.Structure h = absurd h.required
-  none_missing key.Accumulator h = absurd h.required
-  none_missing key.Word h = absurd h.required
-  none_missing key.Guards h = absurd h.required
-  none_missing key.Fractions h = absurd h.required
-  none_missing key.Lengths h = absurd h.required
+  none_missing _ h = absurd h.required
 
   -- ---- unknown keys
 
@@ -189,28 +199,7 @@ module _ (file : Members) (f : Filter) (d : Describes file f) where
       table_is (DescribesOutput f.input_low) f.outputs file key.Outputs place owner d.outputs.held stands in
       let only : is_known known text ≡ true =
       subst (λ (x : List Key). is_known x text ≡ true) same (is.keys text there) in absurd cc
-  unknown_at (Some key.Form) form place owner known text named stands may there unknown = absurd cc
-  unknown_at (Some key.InputLow) form place owner known text named stands may there unknown = absurd cc
-  unknown_at (Some key.InputsWidth) form place owner known text named stands may there unknown = absurd cc
-  unknown_at (Some key.InputsBound) form place owner known text named stands may there unknown = absurd cc
-  unknown_at (Some key.OutputsWidth) form place owner known text named stands may there unknown = absurd cc
-  unknown_at (Some key.OutputsLow) form place owner known text named stands may there unknown = absurd cc
-  unknown_at (Some key.OutputsError) form place owner known text named stands may there unknown = absurd cc
-  unknown_at (Some key.B) form place owner known text named stands may there unknown = absurd cc
-  unknown_at (Some key.A) form place owner known text named stands may there unknown = absurd cc
-  unknown_at (Some key.Sections) form place owner known text named stands may there unknown = absurd cc
-  unknown_at (Some key.MatA) form place owner known text named stands may there unknown = absurd cc
-  unknown_at (Some key.MatB) form place owner known text named stands may there unknown = absurd cc
-  unknown_at (Some key.MatC) form place owner known text named stands may there unknown = absurd cc
-  unknown_at (Some key.MatD) form place owner known text named stands may there unknown = absurd cc
-  unknown_at (Some key.K) form place owner known text named stands may there unknown = absurd cc
-  unknown_at (Some key.V) form place owner known text named stands may there unknown = absurd cc
-  unknown_at (Some key.Structure) form place owner known text named stands may there unknown = absurd cc
-  unknown_at (Some key.Accumulator) form place owner known text named stands may there unknown = absurd cc
-  unknown_at (Some key.Word) form place owner known text named stands may there unknown = absurd cc
-  unknown_at (Some key.Guards) form place owner known text named stands may there unknown = absurd cc
-  unknown_at (Some key.Fractions) form place owner known text named stands may there unknown = absurd cc
-  unknown_at (Some key.Lengths) form place owner known text named stands may there unknown = absurd cc
+  unknown_at (Some _) form place owner known text named stands may there unknown = absurd cc
 
   pub none_unknown : (text : List ℕ) → IsUnknown file text → ⊥
   none_unknown text h =
@@ -224,10 +213,11 @@ module _ (file : Members) (f : Filter) (d : Describes file f) where
       is_here (as_str v) _ (said_of (value_at key.Form file) (λ v. as_str v ≡ Some (form_text (form_of f.coefficients)))
       v there d.form)
   kind_held key.Structure place v h =
-      let there = own_there file key.Structure h.owner v h.stands h.held in
-      is_here (as_str v) _ (said (f.settings.structure ≡ default_structure (form_of f.coefficients))
-      (value_at key.Structure file) (λ v. as_str v ≡ Some (structure_text f.settings.structure)) v there
-      d.settings.structure)
+      word_kind key.Structure structure_text (default_structure (form_of f.coefficients)) file f.settings.structure v
+      d.settings.structure (own_there file key.Structure h.owner v h.stands h.held)
+  kind_held key.Rounding place v h =
+      word_kind key.Rounding mode_text mode.Nearest file f.settings.rounding v
+      d.settings.rounding (own_there file key.Rounding h.owner v h.stands h.held)
   kind_held key.InputLow place v h =
       whole_kind key.InputLow (default_of key.InputLow) file f.input_low v d.input_low.number
       (own_there file key.InputLow h.owner v h.stands h.held)
@@ -333,29 +323,11 @@ module _ (file : Members) (f : Filter) (d : Describes file f) where
       let same : h.text ≡ form_text g = cc in other_form h.text g same h.other
   no_other_word key.Structure h =
       let s = f.settings.structure in
-      let is : ◌≡◌ {A = Option (List ℕ)} (Some h.text) (Some (structure_text s)) =
-      said (s ≡ default_structure (form_of f.coefficients)) (value_at key.Structure file)
-      (λ v. as_str v ≡ Some (structure_text s)) (string h.text) h.held d.settings.structure in
-      let same : h.text ≡ structure_text s = cc in other_structure h.text s same h.other
-  no_other_word key.InputLow h = let is = h.words in absurd cc
-  no_other_word key.Inputs h = let is = h.words in absurd cc
-  no_other_word key.InputsWidth h = let is = h.words in absurd cc
-  no_other_word key.InputsBound h = let is = h.words in absurd cc
-  no_other_word key.Outputs h = let is = h.words in absurd cc
-  no_other_word key.OutputsWidth h = let is = h.words in absurd cc
-  no_other_word key.OutputsLow h = let is = h.words in absurd cc
-  no_other_word key.OutputsError h = let is = h.words in absurd cc
-  no_other_word key.B h = let is = h.words in absurd cc
-  no_other_word key.A h = let is = h.words in absurd cc
-  no_other_word key.Sections h = let is = h.words in absurd cc
-  no_other_word key.MatA h = let is = h.words in absurd cc
-  no_other_word key.MatB h = let is = h.words in absurd cc
-  no_other_word key.MatC h = let is = h.words in absurd cc
-  no_other_word key.MatD h = let is = h.words in absurd cc
-  no_other_word key.K h = let is = h.words in absurd cc
-  no_other_word key.V h = let is = h.words in absurd cc
-  no_other_word key.Accumulator h = let is = h.words in absurd cc
-  no_other_word key.Word h = let is = h.words in absurd cc
-  no_other_word key.Guards h = let is = h.words in absurd cc
-  no_other_word key.Fractions h = let is = h.words in absurd cc
-  no_other_word key.Lengths h = let is = h.words in absurd cc
+      other_structure h.text s
+      (spelled_as key.Structure structure_text (default_structure (form_of f.coefficients)) file s h.text
+      d.settings.structure h.held) h.other
+  no_other_word key.Rounding h =
+      let m = f.settings.rounding in
+      other_mode h.text m
+      (spelled_as key.Rounding mode_text mode.Nearest file m h.text d.settings.rounding h.held) h.other
+  no_other_word _ h = let is = h.words in absurd cc

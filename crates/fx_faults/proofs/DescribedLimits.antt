@@ -194,20 +194,7 @@ module _ (file : Members) (f : Filter) (d : Describes file f) where
       entries_within key.Lengths file f.settings.lengths h.value h.entry got limit d.settings.lengths
       (own_there file key.Lengths v.owner h.value v.stands v.held) h.among
       (subst (λ (r : Range). IsPast r got limit) h.ranged h.past)
-  none_out key.Form got limit h = absurd h.whole
-  none_out key.Inputs got limit h = absurd h.whole
-  none_out key.Outputs got limit h = absurd h.whole
-  none_out key.OutputsError got limit h = absurd h.whole
-  none_out key.B got limit h = absurd h.whole
-  none_out key.A got limit h = absurd h.whole
-  none_out key.Sections got limit h = absurd h.whole
-  none_out key.MatA got limit h = absurd h.whole
-  none_out key.MatB got limit h = absurd h.whole
-  none_out key.MatC got limit h = absurd h.whole
-  none_out key.MatD got limit h = absurd h.whole
-  none_out key.K got limit h = absurd h.whole
-  none_out key.V got limit h = absurd h.whole
-  none_out key.Structure got limit h = absurd h.whole
+  none_out _ got limit h = absurd h.whole
 
   -- ---- outputs beside the inputs and the accumulator
 
@@ -267,74 +254,44 @@ module _ (file : Members) (f : Filter) (d : Describes file f) where
   pub none_past : (k : Key) (got limit : ℤ) → IsPastLimit file k got limit → ⊥
   none_past key.Accumulator got limit h = no_other_accumulator got limit h
   none_past key.OutputsError got limit h = none_negative got limit h
-  none_past key.OutputsLow got limit (inl h) = none_out key.OutputsLow got limit h
   none_past key.OutputsLow got limit (inr h) = none_far got limit h
-  none_past key.OutputsWidth got limit (inl h) = none_out key.OutputsWidth got limit h
   none_past key.OutputsWidth got limit (inr h) = none_wider got limit h
-  none_past key.Form got limit (inl h) = none_out key.Form got limit h
-  none_past key.Form got limit (inr h) = no_most key.Form got limit refl h
-  none_past key.InputLow got limit (inl h) = none_out key.InputLow got limit h
-  none_past key.InputLow got limit (inr h) = no_most key.InputLow got limit refl h
-  none_past key.InputsWidth got limit (inl h) = none_out key.InputsWidth got limit h
-  none_past key.InputsWidth got limit (inr h) = no_most key.InputsWidth got limit refl h
-  none_past key.InputsBound got limit (inl h) = none_out key.InputsBound got limit h
-  none_past key.InputsBound got limit (inr h) = no_most key.InputsBound got limit refl h
-  none_past key.MatB got limit (inl h) = none_out key.MatB got limit h
-  none_past key.MatB got limit (inr h) = no_most key.MatB got limit refl h
-  none_past key.MatC got limit (inl h) = none_out key.MatC got limit h
-  none_past key.MatC got limit (inr h) = no_most key.MatC got limit refl h
-  none_past key.MatD got limit (inl h) = none_out key.MatD got limit h
-  none_past key.MatD got limit (inr h) = no_most key.MatD got limit refl h
-  none_past key.V got limit (inl h) = none_out key.V got limit h
-  none_past key.V got limit (inr h) = no_most key.V got limit refl h
-  none_past key.Structure got limit (inl h) = none_out key.Structure got limit h
-  none_past key.Structure got limit (inr h) = no_most key.Structure got limit refl h
-  none_past key.Word got limit (inl h) = none_out key.Word got limit h
-  none_past key.Word got limit (inr h) = no_most key.Word got limit refl h
-  none_past key.Inputs got limit (inl h) = none_out key.Inputs got limit h
   none_past key.Inputs got limit (inr h) = count_past key.Inputs got limit (λ n count.
       few_of m (most_of key.Inputs) n (inputs_count file f d n count) d.inputs.count.few) h
-  none_past key.Outputs got limit (inl h) = none_out key.Outputs got limit h
   none_past key.Outputs got limit (inr h) = count_past key.Outputs got limit (λ n count.
       few_of p (most_of key.Outputs) n (outputs_count file f d n count) d.outputs.count.few) h
-  none_past key.Guards got limit (inl h) = none_out key.Guards got limit h
   none_past key.Guards got limit (inr h) = count_past key.Guards got limit (λ n count.
       (naturals_count file f d key.Guards f.settings.guards n d.settings.guards count).few) h
-  none_past key.Fractions got limit (inl h) = none_out key.Fractions got limit h
   none_past key.Fractions got limit (inr h) = count_past key.Fractions got limit (λ n count.
       (naturals_count file f d key.Fractions f.settings.fractions n d.settings.fractions count).few) h
-  none_past key.Lengths got limit (inl h) = none_out key.Lengths got limit h
   none_past key.Lengths got limit (inr h) = count_past key.Lengths got limit (λ n count.
       (naturals_count file f d key.Lengths f.settings.lengths n d.settings.lengths count).few) h
-  none_past key.B got limit (inl h) = none_out key.B got limit h
   none_past key.B got limit (inr h) = count_past key.B got limit (λ n count.
       let (b, a, is) =
       transfer_of m p file f.coefficients d.coefficients (home file f d key.B form.Tf n refl count) in
       few_of (length b) (most_of key.B) n (numerals_count file f d key.B b n is.numerator.entries count)
       is.numerator.count.few) h
-  none_past key.A got limit (inl h) = none_out key.A got limit h
   none_past key.A got limit (inr h) = count_past key.A got limit (λ n count.
       let (b, a, is) =
       transfer_of m p file f.coefficients d.coefficients (home file f d key.A form.Tf n refl count) in
       few_of (length a) (most_of key.A) n (numerals_count file f d key.A a n is.denominator.entries count)
       is.denominator.count.few) h
-  none_past key.Sections got limit (inl h) = none_out key.Sections got limit h
   none_past key.Sections got limit (inr h) = count_past key.Sections got limit (λ n count.
       let (cs, is) =
       cascade_of m p file f.coefficients d.coefficients (home file f d key.Sections form.Sos n refl count) in
       few_of (length is.rows) (most_of key.Sections) n (rows_count file f d key.Sections is.rows n is.held count)
       is.count.few) h
-  none_past key.MatA got limit (inl h) = none_out key.MatA got limit h
   none_past key.MatA got limit (inr h) = count_past key.MatA got limit (λ n count.
       let s = space_of m p file f.coefficients d.coefficients (home file f d key.MatA form.Ss n refl count) in
       let rows = s.space.state in
       few_of s.n (most_of key.MatA) n (sym rows.high ∙ rows_count file f d key.MatA rows.rows n rows.held count)
       s.space.states.few) h
-  none_past key.K got limit (inl h) = none_out key.K got limit h
   none_past key.K got limit (inr h) = count_past key.K got limit (λ n count.
       let (ks, vs, is) =
       lattice_of m p file f.coefficients d.coefficients (home file f d key.K form.Lattice n refl count) in
       few_of (length ks) (most_of key.K) n (numerals_count file f d key.K ks n is.reflections count) is.few) h
+  none_past k got limit (inl h) = none_out k got limit h
+  none_past k got limit (inr h) = no_most k got limit refl h
 
   -- ---- all faults
 

@@ -171,21 +171,7 @@ module _ (file : Members) (f : Filter) (d : Describes file f) where
       let here : form.Lattice ≡ form_of f.coefficients = same ∙ at_home file f key.V home v d own there in
       let (ks, vs, is) = lattice_of m p file f.coefficients d.coefficients here in
       (vs, list_means vs v (said_of (value_at key.V file) _ v there is.taps))
-  numerals_held key.Form home v own there = absurd cc
-  numerals_held key.InputLow home v own there = absurd cc
-  numerals_held key.Inputs home v own there = absurd cc
-  numerals_held key.InputsWidth home v own there = absurd cc
-  numerals_held key.InputsBound home v own there = absurd cc
-  numerals_held key.Outputs home v own there = absurd cc
-  numerals_held key.OutputsWidth home v own there = absurd cc
-  numerals_held key.OutputsLow home v own there = absurd cc
-  numerals_held key.OutputsError home v own there = absurd cc
-  numerals_held key.Structure home v own there = absurd cc
-  numerals_held key.Accumulator home v own there = absurd cc
-  numerals_held key.Word home v own there = absurd cc
-  numerals_held key.Guards home v own there = absurd cc
-  numerals_held key.Fractions home v own there = absurd cc
-  numerals_held key.Lengths home v own there = absurd cc
+  numerals_held _ home v own there = absurd cc
 
   -- the entry of a key of coefficients at a place is a numeral
   entry_held : (k : Key) (home : Form) (place : ℕ) (x : Data) → home_of k ≡ Some home →
@@ -204,14 +190,6 @@ module _ (file : Members) (f : Filter) (d : Describes file f) where
       table_is (DescribesOutput f.input_low) f.outputs file key.Outputs place v.owner d.outputs.held v.stands in
       bad_entry h.value h.text bad o.error h.written h.no_numeral
       (said_of (value_at key.OutputsError v.owner) (IsNumeralOf o.error) h.value v.held is.error)
-  none_bad key.Form place bad h = absurd h.numerals
-  none_bad key.InputLow place bad h = absurd h.numerals
-  none_bad key.Inputs place bad h = absurd h.numerals
-  none_bad key.InputsWidth place bad h = absurd h.numerals
-  none_bad key.InputsBound place bad h = absurd h.numerals
-  none_bad key.Outputs place bad h = absurd h.numerals
-  none_bad key.OutputsWidth place bad h = absurd h.numerals
-  none_bad key.OutputsLow place bad h = absurd h.numerals
   none_bad key.B place bad h =
       let (c, means) = entry_held key.B form.Tf place h.value refl h.held in
       bad_entry h.value h.text bad c h.written h.no_numeral means
@@ -239,12 +217,7 @@ module _ (file : Members) (f : Filter) (d : Describes file f) where
   none_bad key.V place bad h =
       let (c, means) = entry_held key.V form.Lattice place h.value refl h.held in
       bad_entry h.value h.text bad c h.written h.no_numeral means
-  none_bad key.Structure place bad h = absurd h.numerals
-  none_bad key.Accumulator place bad h = absurd h.numerals
-  none_bad key.Word place bad h = absurd h.numerals
-  none_bad key.Guards place bad h = absurd h.numerals
-  none_bad key.Fractions place bad h = absurd h.numerals
-  none_bad key.Lengths place bad h = absurd h.numerals
+  none_bad _ place bad h = absurd h.numerals
 
   -- ---- entries that are 1
 
@@ -272,25 +245,4 @@ module _ (file : Members) (f : Filter) (d : Describes file f) where
       let one : is_one c ≡ true = lead_at h.one.0 place is.rows c h.one.1 is.wide is.lead found in
       let other : is_one c ≡ false =
       subst (λ (x : Fraction). is_one x ≡ false) (one_number h.value h.number c h.means means) h.other in absurd cc
-  each_one key.Form place h = absurd h.one
-  each_one key.InputLow place h = absurd h.one
-  each_one key.Inputs place h = absurd h.one
-  each_one key.InputsWidth place h = absurd h.one
-  each_one key.InputsBound place h = absurd h.one
-  each_one key.Outputs place h = absurd h.one
-  each_one key.OutputsWidth place h = absurd h.one
-  each_one key.OutputsLow place h = absurd h.one
-  each_one key.OutputsError place h = absurd h.one
-  each_one key.B place h = absurd h.one
-  each_one key.MatA place h = absurd h.one
-  each_one key.MatB place h = absurd h.one
-  each_one key.MatC place h = absurd h.one
-  each_one key.MatD place h = absurd h.one
-  each_one key.K place h = absurd h.one
-  each_one key.V place h = absurd h.one
-  each_one key.Structure place h = absurd h.one
-  each_one key.Accumulator place h = absurd h.one
-  each_one key.Word place h = absurd h.one
-  each_one key.Guards place h = absurd h.one
-  each_one key.Fractions place h = absurd h.one
-  each_one key.Lengths place h = absurd h.one
+  each_one _ place h = absurd h.one

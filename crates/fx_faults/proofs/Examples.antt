@@ -138,6 +138,13 @@ no_list_true = record {
 abbrev no_form : Members
 no_form = form_at (codes "fir") (inputs (outputs no_members))
 
+-- rows cannot be rounded up
+abbrev other_rounding : Members
+other_rounding =
+    member (codes "a") (list_of_one one_text)
+    (member (codes "b") (list_of_one one_text)
+    (form_at (codes "tf") (inputs (outputs (member (codes "rounding") (string (codes "up")) no_members)))))
+
 -- `k` is no key of a transfer function
 abbrev other_key : Members
 other_key = form_at (codes "tf") (inputs (member (codes "k") (array no_items) (outputs no_members)))
@@ -293,6 +300,7 @@ examples =
     (without_width, Missing key.OutputsWidth) ∷
     (no_list, WrongKind key.B) ∷
     (no_form, UnknownWord key.Form) ∷
+    (other_rounding, UnknownWord key.Rounding) ∷
     (other_key, UnknownKey (codes "k")) ∷
     (no_digit, Numeral key.B 1 decimal.Empty) ∷
     (too_fine, Numeral key.B 0 decimal.TooFine) ∷
@@ -349,7 +357,7 @@ told = (
                                 refl,
                                 (
                                   refl,
-                                  (refl, (refl, tt)),
+                                  (refl, (refl, (refl, tt))),
                                 ),
                               ),
                             ),

@@ -40,7 +40,7 @@ use Rattle.fx_files.specs.Holds.{Each, IsListOf, IsTableOf}
 use Rattle.fx_files.specs.Lists.{coefficients_in}
 use Rattle.fx_files.specs.Ports.{Ports, ports_in, alone, single, output_fits, outputs_fit}
 use Rattle.fx_files.specs.Reading.{filter_in, filter_of_bytes}
-use Rattle.fx_files.specs.Settings.{is_listed, structure_in, accumulator_in, settings_in}
+use Rattle.fx_files.specs.Settings.{is_listed, structure_in, mode_in, accumulator_in, settings_in}
 use Rattle.fx_files.specs.declared.forms.Form.TheVariants as form
 use Rattle.fx_files.proofs.HeldChoices.{head_read, settings_read}
 use Rattle.fx_files.proofs.HeldFilter.{filter_stands}
@@ -51,7 +51,7 @@ use Rattle.fx_faults.specs.Laws.{FaultsAreTrue, NoTableLaw, NoneIsDescribed}
 use Rattle.fx_faults.proofs.Listed.{is_table}
 use Rattle.fx_files.proofs.HeldNumbers.{integer_read}
 use Rattle.fx_faults.proofs.NumberFaults.{integer_true, there_or_default, natural_true, numbers_true, not_past}
-use Rattle.fx_faults.proofs.WordFaults.{head_true, structure_true}
+use Rattle.fx_faults.proofs.WordFaults.{head_true, structure_true, mode_true}
 use Rattle.fx_faults.proofs.PortFaults.{ports_true}
 use Rattle.fx_faults.proofs.CoefficientFaults.{coefficients_true}
 
@@ -123,7 +123,8 @@ settings_true : (file : Members) (form : Form) (f : FilterFault) → settings_in
 unfolding settings_in
 settings_true file form f h =
     in_step (structure_in form file) _ f h (structure_true file form f)
-    (λ s structured past_s. in_step (accumulator_in file) _ f past_s (accumulator_true file f)
+    (λ s structured past_s. in_step (mode_in file) _ f past_s (mode_true file f)
+    (λ r moded past_r. in_step (accumulator_in file) _ f past_r (accumulator_true file f)
     (λ a summed past_a. in_step (natural_in key.Word file) _ f past_a (natural_true file key.Word 0 file f (record {
       stands = refl;
       is = refl;
@@ -155,7 +156,7 @@ settings_true file form f h =
       defaulted = refl;
       ranged = refl;
     }))
-    (λ l h10 h11. absurd cc))))))
+    (λ l h10 h11. absurd cc)))))))
 
 -- ---- outputs beside the inputs and the accumulator
 

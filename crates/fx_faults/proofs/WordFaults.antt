@@ -10,11 +10,14 @@ use Rattle.fx_math.specs.Faults.{or_fault}
 use Rattle.fx_keys.specs.Keys.{parent_of}
 use Rattle.fx_keys.specs.Table.{needed}
 use Rattle.fx_keys.specs.declared.fault.FilterFault.{FilterFault}
+use Rattle.fx_eqs.specs.declared.mode.Mode.{Mode}
+use Rattle.fx_eqs.specs.declared.mode.Mode.TheVariants.{Nearest}
+use Rattle.fx_keys.specs.Words.{text_at, word_at}
 use Rattle.fx_keys.specs.declared.fault.FilterFault.TheVariants.{Missing, WrongKind}
 use Rattle.fx_keys.specs.declared.key.Key.{Key}
 use Rattle.fx_keys.specs.declared.key.Key.TheVariants as key
 use Rattle.fx_files.specs.Describes.{HoldsForm}
-use Rattle.fx_files.specs.Holds.{value_at}
+use Rattle.fx_files.specs.Holds.{value_at, IsWordOf}
 use Rattle.fx_files.specs.declared.forms.Form.{Form}
 use Rattle.fx_files.proofs.Steps.{bind_ok, fault_ok, fault_err, in_step, and_some}
 use Rattle.fx_faults.specs.Kinds as kind
@@ -31,12 +34,11 @@ use Rattle.std.proofs.lemmas.Slice.Eq.{bytes_eq-Decides}
 use Rattle.toml.specs.Data.{no_members, member, get_member, as_str}
 use Rattle.fx_keys.specs.Table.{is_known, only_keys}
 use Rattle.fx_keys.specs.declared.fault.FilterFault.TheVariants.{UnknownKey, UnknownWord}
-use Rattle.fx_files.specs.declared.forms.Form.TheVariants as form
-use Rattle.fx_files.specs.Forms.{form_text, form_word, structure_word, known_keys, default_structure}
+use Rattle.fx_files.specs.Forms.{form_text, form_word, structure_word, mode_word, known_keys, default_structure}
 use Rattle.fx_files.specs.Head.{form_in, head_in}
-use Rattle.fx_files.specs.Settings.{structure_at, structure_in}
+use Rattle.fx_files.specs.Settings.{structure_in, mode_in}
 use Rattle.fx_files.specs.declared.forms.Structure.{Structure}
-use Rattle.fx_files.proofs.HeldChoices.{form_is}
+use Rattle.fx_files.proofs.HeldChoices.{form_read, word_read}
 use Rattle.fx_keys.proofs.Ascending.{found_later, same_itself}
 use Rattle.fx_faults.specs.Faults.{words_of}
 use Rattle.fx_faults.specs.Places.{keys_in}
@@ -133,6 +135,18 @@ no_structure text h = elim (cases_Bool (bytes_eq text (codes "df1"))) [
   ]
 ]
 
+no_mode : (text : List ℕ) → mode_word text ≡ None → All (λ word. text ≢ word) (words_of key.Rounding)
+no_mode text h = elim (cases_Bool (bytes_eq text (codes "nearest"))) [
+  | inl is ↦ absurd (let e : ◌≡◌ {A = Option Mode} (Some _) None = rw is at h in cc)
+  | inr n1 ↦ elim (cases_Bool (bytes_eq text (codes "floor"))) [
+    | inl is ↦ absurd (let e : ◌≡◌ {A = Option Mode} (Some _) None = rw (n1, is) at h in cc)
+    | inr n2 ↦
+        let P : List ℕ → Type 0 = λ word. text ≢ word in
+        All-cons P (codes "nearest") (codes "floor" ∷ []) (other_word text (codes "nearest") n1)
+        (All-cons P (codes "floor") [] (other_word text (codes "floor") n2) (All-nil P))
+  ]
+]
+
 -- the value of a key is no text
 text_true : (file : Members) (k : Key) (v : Data) (f : FilterFault) → parent_of k ≡ None → kind_of k ≡ kind.Text →
     value_at k file ≡ Some v → or_fault (WrongKind k) (as_str v) ≡ Err f → IsTrueOf file f
@@ -140,70 +154,56 @@ text_true file k v f own is there h =
     let (none, e) = fault_err (WrongKind k) f (as_str v) h in
     kind_true file k kind.Text 0 v f (own_value file k v own there) is (is_nothing (as_str v) none) e
 
+-- the value of a key is none of its words
+word_true : {A : Type 0} (file : Members) (k : Key) (meaning : List ℕ → Option A) (v : Data) (f : FilterFault) →
+    parent_of k ≡ None → kind_of k ≡ kind.Text → value_at k file ≡ Some v →
+    ((text : List ℕ) → meaning text ≡ None → All (λ word. text ≢ word) (words_of k)) →
+    word_at k meaning v ≡ Err f → IsTrueOf file f
+word_true file k meaning v f own kinded there others h =
+    in_step (text_at k v) _ f h (text_true file k v f own kinded there)
+    (λ text is past_is.
+    let (none, e) = fault_err (UnknownWord k) f (meaning text) past_is in
+    subst (IsTrueOf file) e
+    (record {
+      words = kinded;
+      text = text;
+      held = there ∙ ap (λ (x : Data). Some x) (is_string v text (fault_ok (WrongKind k) (as_str v) text is));
+      other = others text none;
+    }))
+
+-- the same where the key need not be there
+choice_true : {A : Type 0} (file : Members) (k : Key) (meaning : List ℕ → Option A) (default : A) (o : Option Data)
+    (f : FilterFault) → parent_of k ≡ None → kind_of k ≡ kind.Text → value_at k file ≡ o →
+    ((text : List ℕ) → meaning text ≡ None → All (λ word. text ≢ word) (words_of k)) →
+    option_map_or (word_at k meaning) o (Ok default) ≡ Err f → IsTrueOf file f
+choice_true file k meaning default None f own kinded there others h = absurd cc
+choice_true file k meaning default (Some v) f own kinded there others h =
+    word_true file k meaning v f own kinded there others h
+
 form_true : (file : Members) (f : FilterFault) → form_in file ≡ Err f → IsTrueOf file f
 form_true file f h =
     in_step (needed key.Form file) _ f h (missing_true file key.Form 0 file f refl tt)
     (λ v got past_got.
     let there : value_at key.Form file ≡ Some v = fault_ok (Missing key.Form) (value_at key.Form file) v got in
-    in_step (or_fault (WrongKind key.Form) (as_str v)) _ f past_got (text_true file key.Form v f refl refl there)
-    (λ text is past_is.
-    let (none, e) = fault_err (UnknownWord key.Form) f (form_word text) past_is in
-    subst (IsTrueOf file) e
-    (record {
-      words = refl;
-      text = text;
-      held = there ∙ ap (λ (x : Data). Some x) (is_string v text (fault_ok (WrongKind key.Form) (as_str v) text is));
-      other = no_form text none;
-    })))
-
-structure_here : (file : Members) (form : Form) (o : Option Data) (f : FilterFault) → value_at key.Structure file ≡ o →
-    option_map_or structure_at o (Ok (default_structure form)) ≡ Err f → IsTrueOf file f
-structure_here file form None f there h = absurd cc
-structure_here file form (Some v) f there h =
-    in_step (or_fault (WrongKind key.Structure) (as_str v)) _ f h (text_true file key.Structure v f refl refl there)
-    (λ text is past_is.
-    let (none, e) = fault_err (UnknownWord key.Structure) f (structure_word text) past_is in
-    subst (IsTrueOf file) e
-    (record {
-      words = refl;
-      text = text;
-      held = there
-          ∙ ap (λ (x : Data). Some x) (is_string v text (fault_ok (WrongKind key.Structure) (as_str v) text is));
-      other = no_structure text none;
-    }))
+    word_true file key.Form form_word v f refl refl there no_form past_got)
 
 pub structure_true : (file : Members) (form : Form) (f : FilterFault) → structure_in form file ≡ Err f → IsTrueOf file f
-structure_true file form f h = structure_here file form (value_at key.Structure file) f refl h
+structure_true file form f h =
+    choice_true file key.Structure structure_word (default_structure form) (value_at key.Structure file) f
+    refl refl refl no_structure h
+
+pub mode_true : (file : Members) (f : FilterFault) → mode_in file ≡ Err f → IsTrueOf file f
+mode_true file f h =
+    choice_true file key.Rounding mode_word Nearest (value_at key.Rounding file) f refl refl refl no_mode h
 
 -- ---- the form, and the keys that a file of it may have
-
-named_so : (text word : List ℕ) → bytes_eq text word ≡ true → text ≡ word
-named_so text word h = (bytes_eq-Decides text word).0 h
-
-word_named : (text : List ℕ) (f : Form) → form_word text ≡ Some f → text ≡ form_text f
-word_named text f h = elim (cases_Bool (bytes_eq text (codes "tf"))) [
-  | inl is ↦ form_is text form.Tf f (rw is at h) (named_so text (codes "tf") is)
-  | inr n1 ↦ elim (cases_Bool (bytes_eq text (codes "sos"))) [
-    | inl is ↦ form_is text form.Sos f (rw (n1, is) at h) (named_so text (codes "sos") is)
-    | inr n2 ↦ elim (cases_Bool (bytes_eq text (codes "ss"))) [
-      | inl is ↦ form_is text form.Ss f (rw (n1, n2, is) at h) (named_so text (codes "ss") is)
-      | inr n3 ↦ elim (cases_Bool (bytes_eq text (codes "lattice"))) [
-        | inl is ↦ form_is text form.Lattice f (rw (n1, n2, n3, is) at h) (named_so text (codes "lattice") is)
-        | inr n4 ↦ absurd (let e : ◌≡◌ {A = Option Form} None (Some f) = rw (n1, n2, n3, n4) at h in cc)
-      ]
-    ]
-  ]
-]
 
 form_named : (file : Members) (form : Form) → form_in file ≡ Ok form → HoldsForm file form
 form_named file form h =
     let (v, there, past_there) = bind_ok (needed key.Form file) _ form h in
-    let (text, is, past_is) = bind_ok (or_fault (WrongKind key.Form) (as_str v)) _ form past_there in
-    let named : text ≡ form_text form =
-    word_named text form (fault_ok (UnknownWord key.Form) (form_word text) form past_is) in
-    and_some (value_at key.Form file) (λ v. as_str v ≡ Some (form_text form)) v
+    and_some (value_at key.Form file) (IsWordOf form_text form) v
     (fault_ok (Missing key.Form) (value_at key.Form file) v there)
-    (fault_ok (WrongKind key.Form) (as_str v) text is ∙ ap (λ (x : List ℕ). Some x) named)
+    (word_read key.Form form_text form_word v form form_read past_there)
 
 pub head_true : (file : Members) (f : FilterFault) → head_in file ≡ Err f → IsTrueOf file f
 unfolding head_in

@@ -84,6 +84,7 @@ abbrev pub words_of : Key → List (List ℕ)
 words_of key.Form = codes "tf" ∷ codes "sos" ∷ codes "ss" ∷ codes "lattice" ∷ []
 words_of key.Structure =
     codes "df1" ∷ codes "df2" ∷ codes "df2t" ∷ codes "fir" ∷ codes "lattice" ∷ codes "ss" ∷ []
+words_of key.Rounding = codes "nearest" ∷ codes "floor" ∷ []
 words_of _ = []
 
 -- the text of the key is none of its words

@@ -33,6 +33,7 @@ kind_of key.MatD = ListOf (ListOf Numeral)
 kind_of key.K = ListOf Numeral
 kind_of key.V = ListOf Numeral
 kind_of key.Structure = Text
+kind_of key.Rounding = Text
 kind_of key.Accumulator = Whole
 kind_of key.Word = Whole
 kind_of key.Guards = ListOf Whole

@@ -21,7 +21,6 @@ use Rattle.fx_files.specs.Holds.{HoldsInteger}
 use Rattle.fx_keys.specs.Keys.{range_of, default_of}
 use Rattle.fx_files.specs.Forms.{form_text, form_word, structure_text, structure_word, mode_text, mode_word}
 use Rattle.fx_files.specs.Forms.{default_structure, known_keys}
-use Rattle.fx_files.specs.Coefficients as coefficients
 use Rattle.fx_keys.specs.Table.{needed, only_keys}
 use Rattle.fx_keys.specs.Wholes.{integer_or, natural_in, naturals_in}
 use Rattle.fx_keys.specs.Words.{text_at, word_at}

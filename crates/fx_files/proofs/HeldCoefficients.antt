@@ -28,7 +28,6 @@ use Rattle.fx_keys.specs.declared.key.Key.TheVariants as key
 use Rattle.fx_keys.specs.declared.limits.TheConstants.{SECTION_COEFFICIENTS}
 use Rattle.fx_files.specs.declared.forms.Form.{Form}
 use Rattle.fx_files.specs.declared.forms.Form.TheVariants as form
-use Rattle.fx_files.specs.declared.forms.Structure.TheVariants as structure
 use Rattle.fx_files.proofs.Steps.{bind_ok, same_ok, unless_ok}
 use Rattle.fx_files.proofs.HeldNumbers.{count_of, few_test}
 use Rattle.fx_files.proofs.HeldNumbers.{some_test}

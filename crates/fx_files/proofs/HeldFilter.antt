@@ -22,7 +22,7 @@ use Rattle.fx_keys.specs.Entries.{some}
 use Rattle.fx_files.specs.Head.{head_in}
 use Rattle.fx_files.specs.Holds.{HasOnly, Each, IsTableOf, CountFits}
 use Rattle.fx_files.specs.Forms.{known_keys}
-use Rattle.fx_files.specs.Ports.{Inputs, Ports}
+use Rattle.fx_files.specs.Ports.{Ports}
 use Rattle.fx_files.specs.Ports.{ports_in, alone, single}
 use Rattle.fx_files.specs.Ports.{output_fits, outputs_fit}
 use Rattle.fx_files.specs.Reading.{filter_in, filter_of_bytes}
@@ -41,7 +41,6 @@ use Rattle.fx_keys.specs.declared.key.Key.TheVariants as key
 use Rattle.fx_keys.specs.declared.limits.TheConstants.{LOW_DIFFERENCES}
 use Rattle.fx_files.specs.declared.forms.Form.{Form}
 use Rattle.fx_files.specs.declared.forms.Form.TheVariants as form
-use Rattle.fx_files.specs.declared.forms.Structure.TheVariants as structure
 use Rattle.fx_files.proofs.Steps.{and_some, bind_ok, bind_stands, fault_ok, ok_stands, same_ok, some_and, unless_ok}
 use Rattle.fx_files.proofs.HeldNumbers.{few_test}
 use Rattle.fx_files.proofs.HeldNumbers.{not_below}

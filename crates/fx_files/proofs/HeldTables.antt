@@ -1,5 +1,5 @@
 -- Tables in lists, and the keys of a table, are read exactly where a table holds them.
-use Rattle.std.proofs.Common.{◌≡◌, ◌≤◌, ◌∙◌, ℕ, ◌+◌, ℤ, pos, ◌≤ℤ◌}
+use Rattle.std.proofs.Common.{◌≡◌, ◌∙◌, ℕ, ◌+◌, ℤ, pos, ◌≤ℤ◌}
 use Rattle.std.proofs.Common.{Bool, true, false, List, [], ◌∷◌, length}
 use Rattle.std.proofs.Common.{Some, nat_cmp, Result, Ok, Err}
 use Rattle.std.proofs.Common.{refl, ap, subst, inl, inr}
@@ -20,7 +20,6 @@ use Rattle.fx_keys.specs.Keys.{range_of, most_of, default_of}
 use Rattle.fx_keys.specs.Numerals.{numeral_at}
 use Rattle.fx_files.specs.Ports.{Inputs, Ports, top_word, bounds_of, tables_in, input_in, each_input, inputs_in}
 use Rattle.fx_files.specs.Ports.{error_in, output_in, each_output, outputs_in, ports_in}
-use Rattle.fx_files.specs.Coefficients as coefficients
 use Rattle.fx_keys.specs.Table.{needed, is_known, only_keys}
 use Rattle.fx_keys.specs.Wholes.{whole_or, whole_in, natural_in}
 use Rattle.fx_keys.specs.declared.fault.FilterFault.{FilterFault}
@@ -31,7 +30,6 @@ use Rattle.fx_files.specs.declared.formats.OutputEntry.{OutputEntry}
 use Rattle.fx_keys.specs.declared.key.Key.{Key}
 use Rattle.fx_keys.specs.declared.key.Key.TheVariants as key
 use Rattle.fx_keys.specs.declared.limits.TheConstants.{LOWS}
-use Rattle.fx_files.specs.declared.forms.Structure.TheVariants as structure
 use Rattle.fx_files.proofs.Steps.{and_some, bind_ok, fault_ok, ok_stands, same_ok, some_and, unless_ok}
 use Rattle.fx_files.proofs.HeldNumbers.{count_of, count_read, few_test}
 use Rattle.fx_files.proofs.HeldNumbers.{natural_read, natural_stands, not_below}

@@ -11,7 +11,7 @@ ghost use Rattle.fx_files.specs.Forms.{
 use fx_keys::Key;
 
 /// The form in which a file gives a filter.
-#[derive(Clone, Copy, Debug, PartialEq, Eq)]
+#[derive(Clone, Copy)]
 pub enum Form {
     /// A transfer function.
     Tf,
@@ -75,7 +75,7 @@ impl Form {
 }
 
 /// The structure of the code that is to be made.
-#[derive(Clone, Copy, Debug, PartialEq, Eq)]
+#[derive(Clone, Copy)]
 pub enum Structure {
     /// Direct form 1.
     Df1,

@@ -259,7 +259,7 @@ pub(crate) fn single(form: Form, inputs: usize, outputs: usize) -> Result<(), Fi
     ensures gives { result ≡ single form inputs outputs }
     ensures counts { IfOk result (λ _. CountsFit form inputs outputs) }
 {
-    if form == Form::Ss {
+    if matches!(form, Form::Ss) {
         return Ok(());
     }
     alone(Key::Inputs, inputs)?;

@@ -5,7 +5,7 @@ ghost use Rattle.fx_large.specs.Draws.{drawn, next_state};
 
 /// Draws numbers of 16 bits, one after another: a linear congruential generator modulo 2^32, of which each draw takes a
 /// step and then gives the upper bits of the state.
-#[derive(Clone, Copy, Debug, PartialEq, Eq)]
+#[derive(Clone, Copy)]
 pub struct Draws {
     /// The state: that of a fresh generator is its number.
     pub state: u32,

@@ -3,14 +3,10 @@
 
 mod drawing;
 mod job;
-#[cfg(test)]
-mod job_tests;
 mod limits;
 mod running;
 mod sections;
 mod summary;
-#[cfg(test)]
-mod tests;
 
 pub use drawing::Draws;
 pub use job::{Job, JobFault, large, run_sections};

@@ -3,7 +3,7 @@ use Rattle.std.proofs.Common.{ℕ, ◌≤◌, [], length, map, refl, sym, subst}
 use Rattle.std.proofs.lemmas.List.{get_or_default}
 use Rattle.std.proofs.lemmas.List.Elements.{All-map}
 use Rattle.fx_eqs.specs.Fits.{EquationsFit}
-use Rattle.fx_code.specs.Code.{BareRow}
+use Rattle.fx_code.specs.Code.{BareRow, no_bare_row}
 use Rattle.fx_code.specs.NetRows.{bare_at, net_row}
 use Rattle.fx_files.specs.Filter.{Filter}
 use Rattle.fx_totals.specs.Padding.{IsPadded}
@@ -17,7 +17,7 @@ design_below : (d : Quantised) → DesignFits d → RowsBelow (length d.rows) (m
 design_below d fits =
     All-map (AreBelow (length d.rows)) net_row d.rows (λ i e l.
     subst (λ (r : BareRow). AreBelow (length d.rows) (net_row r))
-    (sym (get_or_default d.rows i e (record { shift = 0; terms = [] }) l))
+    (sym (get_or_default d.rows i e no_bare_row l))
     (bare_row_below (length d.rows) (bare_at d.rows i) (fits.there i l)))
 
 pub is_padded : (f : Filter) (d : Quantised) (n : ℕ) → DesignFits d → EquationsFit f.equations →

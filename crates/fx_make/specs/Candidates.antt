@@ -39,12 +39,13 @@ candidates s = flat_map (of_guard s.fractions s.lengths) s.guards
 
 -- ---- quantising
 
--- the low positions and the accumulators of a filter
+-- the low positions, the accumulators and the rounding of a filter
 abbrev pub formats_of : Filter → Formats
 formats_of f = record {
   input_low = f.input_low;
   lows = joined PORTS (λ o. (output_at f o).low ∷ []);
   accumulator = f.settings.accumulator;
+  mode = f.settings.rounding;
 }
 
 -- why a candidate has no rows; no definition answers want of memory

@@ -4,7 +4,7 @@ use fx_totals::TargetRange;
 
 /// Why a candidate does not pass. Rows and outputs are numbered from 0; the rows of the code stand before the expanded
 /// rows of the filter.
-#[derive(Clone, Copy, Debug, PartialEq, Eq)]
+#[derive(Clone, Copy)]
 pub enum Fail {
     /// The right shift of this row is above 62 or not below the bits of the accumulators, or a left shift of one of its
     /// terms is above 62.
@@ -23,7 +23,7 @@ pub enum Fail {
 
 /// A candidate that does not pass: its guard bits, the bits of its coefficients' fractions, the moments of its sweeps,
 /// and why.
-#[derive(Clone, Copy, Debug, PartialEq, Eq)]
+#[derive(Clone, Copy)]
 pub struct Failed {
     /// Guard bits of the rows that are not put out: 0 to 16.
     pub guard: u8,

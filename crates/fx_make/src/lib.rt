@@ -8,15 +8,11 @@ mod fail;
 mod joint;
 mod lengths;
 mod made;
-#[cfg(test)]
-mod make_tests;
 mod quantising;
 mod refusal;
 mod searching;
 mod structure;
 mod targets;
-#[cfg(test)]
-mod tests;
 mod trying;
 
 pub use answer::{Fails, Made, MakeFault};

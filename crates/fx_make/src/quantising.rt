@@ -25,7 +25,7 @@ fn output_low(f: &Filter, o: usize) -> i8
     0
 }
 
-// The low positions and the accumulators of a filter.
+// The low positions, the accumulators and the rounding of a filter.
 fn formats(f: &Filter) -> Formats
     ensures { result ≡ formats_of f.now }
 {
@@ -38,6 +38,7 @@ fn formats(f: &Filter) -> Formats
             output_low(f, 3),
         ],
         accumulator: f.accumulator(),
+        mode: f.mode(),
     }
 }
 

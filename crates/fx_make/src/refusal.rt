@@ -8,7 +8,7 @@ use fx_nums::Iv;
 use std::alloc::AllocError;
 
 /// Why a filter has no implicit form of the structure that it asks for.
-#[derive(Clone, Copy, Debug, PartialEq, Eq)]
+#[derive(Clone, Copy)]
 pub enum StructureFault {
     /// Filters of this form have no such structure.
     NotListed(Form, Structure),

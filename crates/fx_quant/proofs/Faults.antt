@@ -64,23 +64,23 @@ fault_later row i (suc n) before fault l e h =
     ]
 
 -- the same of the rows of a net
-pub rows_later : (accumulator : ℕ) (g : Grid) (net : Net) (count inputs i : ℕ) (before : List BareRow)
+pub rows_later : (formats : Formats) (g : Grid) (net : Net) (count inputs i : ℕ) (before : List BareRow)
     (fault : QuantFault) → i < count →
-    first_rows (λ i. quantised_row accumulator i (kept_terms g net count inputs i)) i ≡ Ok before →
-    Fails is_memory fault (quantised_row accumulator i (kept_terms g net count inputs i)) →
-    Fails is_memory fault (net_rows accumulator g net count inputs)
-rows_later accumulator g net count inputs i before fault l e h =
-    fault_later (λ i. quantised_row accumulator i (kept_terms g net count inputs i)) i count before fault l e h
+    first_rows (λ i. quantised_row formats i (kept_terms g net count inputs i)) i ≡ Ok before →
+    Fails is_memory fault (quantised_row formats i (kept_terms g net count inputs i)) →
+    Fails is_memory fault (net_rows formats g net count inputs)
+rows_later formats g net count inputs i before fault l e h =
+    fault_later (λ i. quantised_row formats i (kept_terms g net count inputs i)) i count before fault l e h
 
-pub rows_next : (accumulator : ℕ) (g : Grid) (net : Net) (count inputs i : ℕ) (list pushed : List DesignRow)
+pub rows_next : (formats : Formats) (g : Grid) (net : Net) (count inputs i : ℕ) (list pushed : List DesignRow)
     (r : DesignRow) →
-    first_rows (λ i. quantised_row accumulator i (kept_terms g net count inputs i)) i ≡ Ok (map row_of list) →
-    quantised_row accumulator i (kept_terms g net count inputs i) ≡ Ok (row_of r) → pushed ≡ list ++ r ∷ [] →
-    first_rows (λ i. quantised_row accumulator i (kept_terms g net count inputs i)) (i + 1) ≡ Ok (map row_of pushed)
-rows_next accumulator g net count inputs i list pushed r e h p =
-    let next : first_rows (λ i. quantised_row accumulator i (kept_terms g net count inputs i)) (i + 1)
+    first_rows (λ i. quantised_row formats i (kept_terms g net count inputs i)) i ≡ Ok (map row_of list) →
+    quantised_row formats i (kept_terms g net count inputs i) ≡ Ok (row_of r) → pushed ≡ list ++ r ∷ [] →
+    first_rows (λ i. quantised_row formats i (kept_terms g net count inputs i)) (i + 1) ≡ Ok (map row_of pushed)
+rows_next formats g net count inputs i list pushed r e h p =
+    let next : first_rows (λ i. quantised_row formats i (kept_terms g net count inputs i)) (i + 1)
     ≡ Ok (map row_of list ++ row_of r ∷ []) =
-    row_more (λ i. quantised_row accumulator i (kept_terms g net count inputs i)) i (map row_of list)
+    row_more (λ i. quantised_row formats i (kept_terms g net count inputs i)) i (map row_of list)
     (row_of r) e h in
     let all : map row_of pushed ≡ map row_of list ++ row_of r ∷ [] = rw (p, map-append) refl in
     rw all next
@@ -92,17 +92,17 @@ finished f formats bare = Ok (record { accumulator = formats.accumulator; inputs
 
 same_rows : (f : Implicit) (formats : Formats) (guards : List ℕ) (fraction : ℕ) (net : Net) (g : Grid) →
     net ≡ form_net f → g ≡ grid formats guards f.sizes.y fraction →
-    net_rows formats.accumulator g net (rows f.sizes) f.sizes.u
-    ≡ net_rows formats.accumulator (grid formats guards f.sizes.y fraction) (form_net f) (rows f.sizes)
+    net_rows formats g net (rows f.sizes) f.sizes.u
+    ≡ net_rows formats (grid formats guards f.sizes.y fraction) (form_net f) (rows f.sizes)
     f.sizes.u
 same_rows f formats guards fraction net g n p =
-    ap (λ x. net_rows formats.accumulator x net (rows f.sizes) f.sizes.u) p
-    ∙ ap (λ y. net_rows formats.accumulator (grid formats guards f.sizes.y fraction) y (rows f.sizes)
+    ap (λ x. net_rows formats x net (rows f.sizes) f.sizes.u) p
+    ∙ ap (λ y. net_rows formats (grid formats guards f.sizes.y fraction) y (rows f.sizes)
     f.sizes.u) n
 
 pub quantised_is : (f : Implicit) (formats : Formats) (guards : List ℕ) (fraction : ℕ) (net : Net) (g : Grid)
     (bare : List BareRow) → net ≡ form_net f → g ≡ grid formats guards f.sizes.y fraction →
-    net_rows formats.accumulator g net (rows f.sizes) f.sizes.u ≡ Ok bare →
+    net_rows formats g net (rows f.sizes) f.sizes.u ≡ Ok bare →
     quantised f formats guards fraction
     ≡ Ok (record { accumulator = formats.accumulator; inputs = f.sizes.u; rows = bare })
 quantised_is f formats guards fraction net g bare n p e =
@@ -110,10 +110,10 @@ quantised_is f formats guards fraction net g bare n p e =
 
 pub quantised_fails : (f : Implicit) (formats : Formats) (guards : List ℕ) (fraction : ℕ) (net : Net)
     (g : Grid) (fault : QuantFault) → net ≡ form_net f → g ≡ grid formats guards f.sizes.y fraction →
-    Fails is_memory fault (net_rows formats.accumulator g net (rows f.sizes) f.sizes.u) →
+    Fails is_memory fault (net_rows formats g net (rows f.sizes) f.sizes.u) →
     Fails is_memory fault (quantised f formats guards fraction)
 quantised_fails f formats guards fraction net g fault n p e =
     subst (λ r. Fails is_memory fault (r >>= finished f formats))
     (same_rows f formats guards fraction net g n p)
-    (fails_through is_memory fault (net_rows formats.accumulator g net (rows f.sizes) f.sizes.u)
+    (fails_through is_memory fault (net_rows formats g net (rows f.sizes) f.sizes.u)
     (finished f formats) e)

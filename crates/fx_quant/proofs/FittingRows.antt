@@ -11,6 +11,7 @@ use Rattle.fx_net.specs.Links.{coefficients}
 use Rattle.fx_net.specs.Net.{Net}
 use Rattle.fx_net.specs.declared.net.Which.{Which}
 use Rattle.fx_net.specs.declared.net.Which.TheVariants.{Now as NowTable, Old as OldTable, In as InTable}
+use Rattle.fx_eqs.specs.declared.mode.Mode.{Mode}
 use Rattle.fx_code.specs.Code.{OldIsThere}
 use Rattle.fx_code.specs.Fits.{TermFits, SourceFits, ReadsFit}
 use Rattle.fx_code.specs.Limits.{same_source}
@@ -51,9 +52,9 @@ terms_fit shift (k ∷ ks) near narrow =
     (term_fits shift k p.0 (All-head (IsNarrow shift) k ks narrow))
     (terms_fit shift ks p.1 (All-tail (IsNarrow shift) k ks narrow))
 
-pub bare_fits : (accumulator i : ℕ) (ks : List Scaled) → row_fault accumulator i ks ≡ None →
-    BareFits accumulator (bare_row ks)
-bare_fits accumulator i ks e =
+pub bare_fits : (accumulator : ℕ) (mode : Mode) (i : ℕ) (ks : List Scaled) → row_fault accumulator i ks ≡ None →
+    BareFits accumulator (bare_row mode ks)
+bare_fits accumulator mode i ks e =
     let shift = shift_of ks in
     let p = if_none (shifts_far accumulator shift ks) _ _ e in
     let far = or_parts _ _ p.0 in
@@ -196,9 +197,9 @@ old_there rows inputs i NowTable j h = tt
 old_there rows inputs i OldTable j h = h
 old_there rows inputs i InTable j h = tt
 
-pub reads_fit : (g : Grid) (net : Net) (rows inputs i : ℕ) → i < rows → rows ≤ CODE_ROWS →
-    ReadsFit i inputs (sized 0 (bare_row (kept_terms g net rows inputs i)))
-reads_fit g net rows inputs i h few =
+pub reads_fit : (mode : Mode) (g : Grid) (net : Net) (rows inputs i : ℕ) → i < rows → rows ≤ CODE_ROWS →
+    ReadsFit i inputs (sized 0 (bare_row mode (kept_terms g net rows inputs i)))
+reads_fit mode g net rows inputs i h few =
     let ks = kept_terms g net rows inputs i in
     let shift = shift_of ks in
     record {
@@ -210,9 +211,9 @@ reads_fit g net rows inputs i h few =
     }
 
 -- the rows of the moment before that are read are there
-pub reads_there : (g : Grid) (net : Net) (rows inputs i : ℕ) →
-    All (λ (t : CodeTerm). OldIsThere rows t.from) (bare_row (kept_terms g net rows inputs i)).terms
-reads_there g net rows inputs i =
+pub reads_there : (mode : Mode) (g : Grid) (net : Net) (rows inputs i : ℕ) →
+    All (λ (t : CodeTerm). OldIsThere rows t.from) (bare_row mode (kept_terms g net rows inputs i)).terms
+reads_there mode g net rows inputs i =
     let ks = kept_terms g net rows inputs i in
     All-map (λ (t : CodeTerm). OldIsThere rows t.from) (code_term (shift_of ks)) ks
     (each_term (λ k. OldIsThere rows k.from) g net rows inputs i

@@ -10,7 +10,7 @@ use Rattle.std.proofs.lemmas.List.Elements.{All-nil, All-push, All-get_or}
 use Rattle.std.proofs.lemmas.List.Sums.{sum_by_push, sum_by_more, sum_by-take-le}
 use Rattle.fx_math.specs.Answers.{told}
 use Rattle.fx_math.specs.Words.{WidthFits, is_accumulator}
-use Rattle.fx_code.specs.Code.{BareRow, Row, Code, IsWhole, OldIsThere, bare}
+use Rattle.fx_code.specs.Code.{BareRow, Row, Code, IsWhole, OldIsThere, bare, no_bare_row}
 use Rattle.fx_code.specs.Fits.{RowFits, ReadsFit}
 use Rattle.fx_code.specs.Limits.{start_fault, row_fault, is_memory, term_count as code_count}
 use Rattle.fx_code.specs.NetRows.{bare_at, bare_rows}
@@ -46,9 +46,9 @@ sized_terms widths rows zero h = refl
 sized_terms widths rows (suc n) h =
     let next : n + 1 ≡ suc n = omega arith in
     let row = sized (slice_index widths n) (bare_at rows n) in
-    let more = sum_by_more (λ (r : BareRow). length r.terms) rows n (record { shift = 0; terms = [] }) h in
-    sum_by_push (λ (r : Row). length r.terms) (sized_rows widths rows n) row
-    ∙ ap (λ k. k + length row.terms) (sized_terms widths rows n (omega arith))
+    let more = sum_by_more (λ (r : BareRow). length r.terms) rows n no_bare_row h in
+    sum_by_push (λ (r : Row). length r.own.terms) (sized_rows widths rows n) row
+    ∙ ap (λ k. k + length row.own.terms) (sized_terms widths rows n (omega arith))
     ∙ sym more ∙ ap (λ k. term_count (take k rows)) next
 
 pub sized_bare : (widths : List ℕ) (rows : List BareRow) (n : ℕ) → n ≤ length rows →
@@ -58,7 +58,7 @@ sized_bare widths rows (suc n) h =
     let next : n + 1 ≡ suc n = omega arith in
     map_push bare (sized_rows widths rows n) (sized (slice_index widths n) (bare_at rows n))
     ∙ ap (λ xs. xs ++ bare_at rows n ∷ []) (sized_bare widths rows n (omega arith))
-    ∙ sym (take_more rows n (record { shift = 0; terms = [] }) h) ∙ ap (λ k. take k rows) next
+    ∙ sym (take_more rows n no_bare_row h) ∙ ap (λ k. take k rows) next
 
 each_sized : (P : Row → Type 0) (widths : List ℕ) (rows : List BareRow) (n : ℕ) →
     ((i : ℕ) → i < n → P (sized (slice_index widths i) (bare_at rows i))) → All P (sized_rows widths rows n)
@@ -120,7 +120,7 @@ pub row_unrefused : (d : Quantised) (p : Code) (widths : List ℕ) (i : ℕ) →
 row_unrefused d p widths i h fits sizes before =
     let count : length p.rows ≡ i = ap length before ∙ sized_count widths d.rows i in
     let row = sized (slice_index_or widths i 0) (bare_at d.rows i) in
-    let more = sum_by_more (λ (r : BareRow). length r.terms) d.rows i (record { shift = 0; terms = [] }) h in
+    let more = sum_by_more (λ (r : BareRow). length r.terms) d.rows i no_bare_row h in
     let part = sum_by-take-le (λ (r : BareRow). length r.terms) d.rows (i + 1) in
     let sum : code_count p.rows ≡ term_count (take i d.rows) =
     ap code_count before ∙ sized_terms widths d.rows i (omega (arith, h)) in
@@ -180,7 +180,7 @@ is_whole d accumulator inputs widths outputs fits some =
     let n = length d.rows in
     record {
       reads = each_sized (λ (row : Row).
-          All (λ (t : CodeTerm). OldIsThere (length (sized_rows widths d.rows n)) t.from) row.terms) widths d.rows n
+          All (λ (t : CodeTerm). OldIsThere (length (sized_rows widths d.rows n)) t.from) row.own.terms) widths d.rows n
           (λ i h. subst (λ k. All (λ (t : CodeTerm). OldIsThere k t.from) (bare_at d.rows i).terms)
           (sym (sized_count widths d.rows n)) (fits.there i h));
       output = omega (arith, some, places_count n outputs outputs);

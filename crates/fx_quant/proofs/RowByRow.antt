@@ -11,6 +11,7 @@ use Rattle.fx_quant.specs.Positions.{Grid}
 use Rattle.fx_quant.specs.Quantised.{net_rows}
 use Rattle.fx_quant.specs.Rows.{unless_fault, first_rows, bare_row, row_fault, kept_terms, quantised_row}
 use Rattle.fx_quant.specs.declared.fault.QuantFault.{QuantFault}
+use Rattle.fx_quant.specs.declared.formats.Formats.{Formats}
 use Rattle.fx_quant.specs.declared.scaled.Scaled.{Scaled}
 
 -- a chain of two steps that gives a value: the first gave one, and the second gave this from it
@@ -54,11 +55,11 @@ rows_each row (suc n) rows e =
     rw all (with_last row n p.0 q.0 (rows_each row n p.0 p.1) q.1)
 
 -- a row of terms has no fault, and is the row of these terms
-pub row_is_bare : (accumulator i : ℕ) (ks : List Scaled) (r : BareRow) → quantised_row accumulator i ks ≡ Ok r →
-    (row_fault accumulator i ks ≡ None) × (r ≡ bare_row ks)
-row_is_bare accumulator i ks r e = no_fault (row_fault accumulator i ks) (bare_row ks) r e
+pub row_is_bare : (formats : Formats) (i : ℕ) (ks : List Scaled) (r : BareRow) → quantised_row formats i ks ≡ Ok r →
+    (row_fault formats.accumulator i ks ≡ None) × (r ≡ bare_row formats.mode ks)
+row_is_bare formats i ks r e = no_fault (row_fault formats.accumulator i ks) (bare_row formats.mode ks) r e
 
-pub rows_count : (accumulator : ℕ) (g : Grid) (net : Net) (n inputs : ℕ) (rows : List BareRow) →
-    net_rows accumulator g net n inputs ≡ Ok rows → length rows ≡ n
-rows_count accumulator g net n inputs rows e =
-    (rows_each (λ i. quantised_row accumulator i (kept_terms g net n inputs i)) n rows e).count
+pub rows_count : (formats : Formats) (g : Grid) (net : Net) (n inputs : ℕ) (rows : List BareRow) →
+    net_rows formats g net n inputs ≡ Ok rows → length rows ≡ n
+rows_count formats g net n inputs rows e =
+    (rows_each (λ i. quantised_row formats i (kept_terms g net n inputs i)) n rows e).count

@@ -22,6 +22,8 @@ use Rattle.fx_net.specs.declared.net.Which.{Which}
 use Rattle.fx_net.specs.declared.net.Which.TheVariants.{Now as NowTable, Old as OldTable, In as InTable}
 use Rattle.fx_code.specs.Code.{weight}
 use Rattle.fx_code.specs.Limits.{same_source}
+use Rattle.fx_eqs.specs.declared.mode.Mode.{Mode}
+use Rattle.fx_code.specs.Code.{BareRow}
 use Rattle.fx_code.specs.declared.term.CodeTerm.{CodeTerm}
 use Rattle.fx_code.specs.declared.term.Read.{Read}
 use Rattle.fx_code.specs.declared.term.Read.TheVariants.{Now, Old, In}
@@ -299,11 +301,11 @@ same_coefficient net i InTable OldTable j l e = cc
 same_coefficient net i InTable InTable j l e = ap (net.input i) (eqb-true l j e)
 
 -- a source whose coefficient is rounded to 0 is not read
-not_read : (g : Grid) (net : Net) (rows inputs i : ℕ) (which : Which) (j : ℕ) →
+not_read : (mode : Mode) (g : Grid) (net : Net) (rows inputs i : ℕ) (which : Which) (j : ℕ) →
     rounded g.fraction (coefficients net which i j) ≡ pos 0 →
     All (λ (t : CodeTerm). same_source t.from (read which j) ≡ false)
-    (bare_row (kept_terms g net rows inputs i)).terms
-not_read g net rows inputs i which j none =
+    (bare_row mode (kept_terms g net rows inputs i)).terms
+not_read mode g net rows inputs i which j none =
     let ks = kept_terms g net rows inputs i in
     All-map (λ (t : CodeTerm). same_source t.from (read which j) ≡ false) (code_term (shift_of ks)) ks
     (each_term (λ k. same_source k.from (read which j) ≡ false) g net rows inputs i
@@ -313,11 +315,11 @@ not_read g net rows inputs i which j none =
 
 -- ---- rows
 
-pub row_takes : (g : Grid) (net : Net) (rows inputs i : ℕ) (which : Which) (j : ℕ) →
+pub row_takes : (mode : Mode) (g : Grid) (net : Net) (rows inputs i : ℕ) (which : Which) (j : ℕ) →
     j < count_of rows inputs i which →
     unsigned_abs (rounded g.fraction (coefficients net which i j)) < 2 ^ 65 →
-    Takes g i (bare_row (kept_terms g net rows inputs i)) (read which j) (coefficients net which i j)
-row_takes g net rows inputs i which j h small =
+    Takes g i (bare_row mode (kept_terms g net rows inputs i)) (read which j) (coefficients net which i j)
+row_takes mode g net rows inputs i which j h small =
     let ks = kept_terms g net rows inputs i in
     let shift = shift_of ks in
     let c : Fraction = coefficients net which i j in
@@ -331,7 +333,7 @@ row_takes g net rows inputs i which j h small =
       near = λ a b u some. near_by (weight_in (map (code_term shift) ks) (read which j) *ℤ pos (2 ^ b))
           (rounded g.fraction c) c.num (den_value c.den) (2 ^ g.fraction) (2 ^ a) (rounds a b u)
           (to_nearest g.fraction c some);
-      unread = not_read g net rows inputs i which j;
+      unread = not_read mode g net rows inputs i which j;
     }
 
 is_least : (shift : ℕ) (ks : List Scaled) → shift_of ks ≡ shift →
@@ -339,10 +341,10 @@ is_least : (shift : ℕ) (ks : List Scaled) → shift_of ks ≡ shift →
 is_least zero ks e = inl refl
 is_least (suc n) ks e = inr (reached (suc n) ks (omega arith) e)
 
-pub row_is_reduced : (g : Grid) (net : Net) (rows inputs i : ℕ) →
+pub row_is_reduced : (mode : Mode) (g : Grid) (net : Net) (rows inputs i : ℕ) →
     ((which : Which) (j : ℕ) → unsigned_abs (rounded g.fraction (coefficients net which i j)) < 2 ^ 65) →
-    IsReduced (bare_row (kept_terms g net rows inputs i))
-row_is_reduced g net rows inputs i small =
+    IsReduced (bare_row mode (kept_terms g net rows inputs i))
+row_is_reduced mode g net rows inputs i small =
     let ks = kept_terms g net rows inputs i in
     record {
       odd = All-map IsOdd (code_term (shift_of ks)) ks
@@ -360,15 +362,16 @@ rounded_rows f formats guards fraction d small e =
     let net : Net = form_net f in
     let n = rows f.sizes in
     let u = f.sizes.u in
-    let p = both (net_rows formats.accumulator g net n u) _ d e in
+    let p = both (net_rows formats g net n u) _ d e in
     let same : record { accumulator = formats.accumulator; inputs = u; rows = p.0 } ≡ d = cc in
-    let all = rows_each (λ i. quantised_row formats.accumulator i (kept_terms g net n u i)) n p.0 p.1 in
-    let row : (i : ℕ) → i < n → bare_at p.0 i ≡ bare_row (kept_terms g net n u i) =
-    λ i h. (row_is_bare formats.accumulator i (kept_terms g net n u i) (bare_at p.0 i) (all.each i h)).1 in
+    let all = rows_each (λ i. quantised_row formats i (kept_terms g net n u i)) n p.0 p.1 in
+    let row : (i : ℕ) → i < n → bare_at p.0 i ≡ bare_row formats.mode (kept_terms g net n u i) =
+    λ i h. (row_is_bare formats i (kept_terms g net n u i) (bare_at p.0 i) (all.each i h)).1 in
     subst (RowsTakeTheForms f formats guards fraction) same (record {
       takes = λ i which j h l. subst (λ r. Takes g i r (read which j) (coefficients net which i j)) (sym (row i h))
-          (row_takes g net n u i which j (sources_are f i which j l) (small which i j));
-      reduced = λ i h. subst IsReduced (sym (row i h)) (row_is_reduced g net n u i (λ which j. small which i j));
+          (row_takes formats.mode g net n u i which j (sources_are f i which j l) (small which i j));
+      reduced = λ i h. subst IsReduced (sym (row i h)) (row_is_reduced formats.mode g net n u i (λ which j. small which i j));
+      modes = λ i h. ap (λ (r : BareRow). r.mode) (row i h);
     })
   where
     sources_are : (f : Implicit) (i : ℕ) (which : Which) (j : ℕ) → j < sources f i which →

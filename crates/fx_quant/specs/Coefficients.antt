@@ -65,6 +65,7 @@ pub record RowsTakeTheForms (f : Implicit) (formats : Formats) (guards : List �
       Takes (grid formats guards f.sizes.y fraction) i (bare_at d.rows i) (read which j)
       (coefficients (form_net f) which i j)
   pub reduced : (i : ℕ) → i < rows f.sizes → IsReduced (bare_at d.rows i)
+  pub modes : (i : ℕ) → i < rows f.sizes → (bare_at d.rows i).mode ≡ formats.mode
 
 -- the rounded coefficients are small, as those of fractions are
 abbrev pub AreSmall : Implicit → ℕ → Type 0

@@ -20,7 +20,7 @@ pub record Quantised : Type 0 where
 
 -- a row with its width
 abbrev pub sized : ℕ → BareRow → Row
-sized width row = record { width = width; shift = row.shift; terms = row.terms }
+sized width row = record { width = width; own = row }
 
 -- the first n rows with their widths
 abbrev pub sized_rows : List ℕ → List BareRow → ℕ → List Row

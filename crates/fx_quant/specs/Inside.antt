@@ -12,7 +12,7 @@ abbrev pub grid_of : Places → Grid
 grid_of p = record { input_low = p.input_low; lows = p.lows.items; fraction = p.fraction }
 
 abbrev pub row_of : DesignRow → BareRow
-row_of r = record { shift = r.shift; terms = r.terms.items }
+row_of r = record { shift = r.shift; mode = r.mode; terms = r.terms.items }
 
 abbrev pub design_of : Inside → Quantised
 design_of d = record { accumulator = d.accumulator; inputs = d.inputs; rows = map row_of d.rows.items }

@@ -19,9 +19,9 @@ use Rattle.fx_quant.specs.declared.formats.TheConstants.{LEAST_LOW, GREATEST_LOW
 use Rattle.fx_quant.specs.declared.formats.TheConstants.{GREATEST_FRACTION, LOWS_APART}
 
 -- the rows of a net that has the form's, on a grid, or the first fault
-abbrev pub net_rows : ℕ → Grid → Net → ℕ → ℕ → Result (List BareRow) QuantFault
-net_rows accumulator g net count inputs =
-    first_rows (λ i. quantised_row accumulator i (kept_terms g net count inputs i)) count
+abbrev pub net_rows : Formats → Grid → Net → ℕ → ℕ → Result (List BareRow) QuantFault
+net_rows formats g net count inputs =
+    first_rows (λ i. quantised_row formats i (kept_terms g net count inputs i)) count
 
 -- a net that has the form's rows first
 abbrev pub form_net : Implicit → Net
@@ -30,7 +30,7 @@ form_net f = put_rows (rows_of f) 0 (empty_net FORM_ROWS)
 -- the rows of the form, with a guard for each intermediate variable and each state
 abbrev pub quantised : Implicit → Formats → List ℕ → ℕ → Result Quantised QuantFault
 quantised f formats guards fraction =
-    net_rows formats.accumulator (grid formats guards f.sizes.y fraction) (form_net f) (rows f.sizes) f.sizes.u
+    net_rows formats (grid formats guards f.sizes.y fraction) (form_net f) (rows f.sizes) f.sizes.u
     >>= λ rows. Ok (record { accumulator = formats.accumulator; inputs = f.sizes.u; rows = rows })
 
 -- a design for these accumulators that reads the form's inputs and has its rows

@@ -12,6 +12,7 @@ use Rattle.fx_net.specs.Links.{coefficients}
 use Rattle.fx_net.specs.Net.{Net}
 use Rattle.fx_net.specs.declared.net.Which.{Which}
 use Rattle.fx_net.specs.declared.net.Which.TheVariants.{Now as NowTable, Old as OldTable, In as InTable}
+use Rattle.fx_eqs.specs.declared.mode.Mode.{Mode}
 use Rattle.fx_code.specs.Code.{BareRow}
 use Rattle.fx_code.specs.declared.limits.TheConstants.{LONGEST_SHIFT, COEFFICIENT_BITS, PRODUCT_BITS}
 use Rattle.fx_code.specs.declared.term.CodeTerm.{CodeTerm}
@@ -21,6 +22,7 @@ use Rattle.fx_quant.specs.Positions.{Grid, row_low, source_low}
 use Rattle.fx_quant.specs.Rounding.{rounded, zeros, odd_part}
 use Rattle.fx_quant.specs.declared.fault.QuantFault.{QuantFault}
 use Rattle.fx_quant.specs.declared.fault.QuantFault.TheVariants.{ShiftRange, Wide}
+use Rattle.fx_quant.specs.declared.formats.Formats.{Formats}
 use Rattle.fx_quant.specs.declared.formats.TheConstants.{ROUNDED_BITS}
 use Rattle.fx_quant.specs.declared.scaled.Scaled.{Scaled}
 
@@ -77,8 +79,8 @@ left_of shift k = unsigned_abs (pos shift -ℤ k.places)
 abbrev pub code_term : ℕ → Scaled → CodeTerm
 code_term shift k = record { coef = k.odd; from = k.from; left = left_of shift k }
 
-abbrev pub bare_row : List Scaled → BareRow
-bare_row ks = record { shift = shift_of ks; terms = map (code_term (shift_of ks)) ks }
+abbrev pub bare_row : Mode → List Scaled → BareRow
+bare_row mode ks = record { shift = shift_of ks; mode = mode; terms = map (code_term (shift_of ks)) ks }
 
 -- ---- its first fault
 
@@ -132,8 +134,8 @@ unless_fault None x = Ok x
 unless_fault (Some fault) x = Err fault
 
 -- row i, or its first fault
-abbrev pub quantised_row : ℕ → ℕ → List Scaled → Result BareRow QuantFault
-quantised_row accumulator i ks = unless_fault (row_fault accumulator i ks) (bare_row ks)
+abbrev pub quantised_row : Formats → ℕ → List Scaled → Result BareRow QuantFault
+quantised_row formats i ks = unless_fault (row_fault formats.accumulator i ks) (bare_row formats.mode ks)
 
 -- the first rows, or the first fault among them
 abbrev pub first_rows : (ℕ → Result BareRow QuantFault) → ℕ → Result (List BareRow) QuantFault

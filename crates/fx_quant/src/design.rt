@@ -3,11 +3,13 @@ ghost use Rattle.fx_code.specs.NetRows.{bare_at};
 ghost use Rattle.fx_quant.specs.Inside.{row_of};
 
 use fx_code::CodeTerm;
+use fx_eqs::Mode;
 use std::marker::Model;
 
 #[derive(Drop)]
 pub(crate) struct DesignRow {
     pub shift: u8,
+    pub mode: Mode,
     pub terms: Vec<CodeTerm>,
 }
 
@@ -51,6 +53,14 @@ impl Design {
         ensures { result ≡ (bare_at self.now.rows i).shift }
     {
         self.row(i).shift
+    }
+
+    /// How row i drops its low places.
+    pub fn mode(&self, i: usize) -> Mode
+        requires { i < length self.now.rows }
+        ensures { result ≡ (bare_at self.now.rows i).mode }
+    {
+        self.row(i).mode
     }
 
     /// The terms of row i, in their order.

@@ -4,7 +4,7 @@ ghost use Rattle.fx_quant.specs.declared.fault.QuantFault.TheVariants.{NoMemory}
 use std::alloc::{AllocError, AllocFailed};
 
 /// Why a form has no integer rows on a grid. Rows and terms are counted from 0.
-#[derive(Clone, Copy, Debug, PartialEq, Eq)]
+#[derive(Clone, Copy)]
 pub enum QuantFault {
     /// The row's right shift is above 62 or not below the bits of the accumulators, or a left shift of one of its terms
     /// is above 62.

@@ -89,7 +89,7 @@ fn places(
 #[tactic(auto, using(crate::proofs::Faults::fault_told))]
 fn design_row(
     alloc: Global,
-    accumulator: u8,
+    formats: &Formats,
     net: &Net<FORM_ROWS>,
     places: &Places,
     rows: usize,
@@ -101,17 +101,17 @@ fn design_row(
     requires rows { rows ≤ FORM_ROWS }
     requires inputs { inputs ≤ PORTS }
     ensures { Gives is_memory row_of result
-        (quantised_row accumulator i (kept_terms (grid_of places.now) (net_of net.now) rows inputs i)) }
+        (quantised_row formats.now i (kept_terms (grid_of places.now) (net_of net.now) rows inputs i)) }
 {
     let terms = row::kept_terms(alloc, net, places, rows, inputs, i)?;
-    row::quantised_row(alloc, accumulator, i as u8, &terms)
+    row::quantised_row(alloc, formats, i as u8, &terms)
 }
 
 // All rows, or the first fault among them.
 #[tactic(auto, using(crate::proofs::Faults::rows_next, crate::proofs::Faults::rows_later))]
 fn design_rows(
     alloc: Global,
-    accumulator: u8,
+    formats: &Formats,
     net: &Net<FORM_ROWS>,
     places: &Places,
     rows: usize,
@@ -120,11 +120,12 @@ fn design_rows(
     requires fraction { places.now.fraction ≤ GREATEST_FRACTION }
     requires rows { rows ≤ FORM_ROWS }
     requires inputs { inputs ≤ PORTS }
-    ensures { Gives is_memory rows_of result (net_rows accumulator (grid_of places.now) (net_of net.now) rows inputs) }
+    ensures { Gives is_memory rows_of result
+        (net_rows formats.now (grid_of places.now) (net_of net.now) rows inputs) }
 {
     let mut list = Vec::new(alloc);
     for i in 0..rows {
-        let row = design_row(alloc, accumulator, net, places, rows, inputs, i)?;
+        let row = design_row(alloc, formats, net, places, rows, inputs, i)?;
         list.push(row)?;
     }
     Ok(list)
@@ -158,14 +159,7 @@ pub fn quantise_rows(
     sif.put_net(&mut net, 0);
     let places = places(alloc, &formats, guards, usize::from(sizes.y), fraction)?;
     let inputs = usize::from(sizes.u);
-    let rows = design_rows(
-        alloc,
-        formats.accumulator,
-        &net,
-        &places,
-        sif.rows(),
-        inputs,
-    )?;
+    let rows = design_rows(alloc, &formats, &net, &places, sif.rows(), inputs)?;
     Ok(Design {
         accumulator: formats.accumulator,
         inputs: sizes.u,

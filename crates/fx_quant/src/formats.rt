@@ -1,10 +1,10 @@
 ghost use Rattle.std.specs.Prelude.{◌≡◌, pos, negsuc};
 
-use fx_eqs::PORTS;
+use fx_eqs::{Mode, PORTS};
 
-/// The low positions of inputs and outputs, and the bits of the accumulators. The last place of a word with the low
-/// position l counts 2^l.
-#[derive(Clone, Copy, Debug, PartialEq, Eq)]
+/// The low positions of inputs and outputs, the bits of the accumulators, and how rows drop low places. The last place
+/// of a word with the low position l counts 2^l.
+#[derive(Clone, Copy)]
 pub struct Formats {
     /// That of all inputs: `LEAST_LOW` to `GREATEST_LOW`.
     pub input_low: i8,
@@ -13,6 +13,8 @@ pub struct Formats {
     pub lows: [i8; PORTS],
     /// 16, 32 or 64.
     pub accumulator: u8,
+    /// That of every row.
+    pub mode: Mode,
 }
 
 /// The least low position of an input or an output.

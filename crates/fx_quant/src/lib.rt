@@ -11,8 +11,6 @@ mod net;
 mod program;
 mod row;
 mod scaled;
-#[cfg(test)]
-mod tests;
 mod widths;
 
 pub use design::Design;

@@ -14,17 +14,17 @@ ghost use Rattle.fx_net.specs.Tables.{net_of};
 ghost use Rattle.fx_quant.specs.Design.{DesignFits};
 
 use crate::design::Design;
-use fx_code::put_term;
+use fx_code::{class_in, put_term};
 use fx_net::Net;
 
 impl Design {
-    // How many half steps the rounding of row i may be off.
+    // How many half steps row i may be off.
     fn class(&self, i: usize) -> u8
         requires { i < length self.now.rows }
         ensures value { result ≡ class_of (bare_at self.now.rows i) }
-        ensures high { result ≤ 1 }
+        ensures high { result ≤ 2 }
     {
-        self.shift(i).min(1)
+        class_in(self.mode(i), self.shift(i))
     }
 
     // Puts the terms of row i.
@@ -65,9 +65,9 @@ impl Design {
     }
 
     /// Writes the rows of a design that fits into a net, from row `at` on: what a row takes of a source is the term's
-    /// coefficient, shifted to the left, over 2 to the power of the row's right shift. A row's class is 0 where its
-    /// right shift is 0, else 1, as rounding is off by at most half a step. The rows have to fit into the net, and to
-    /// be empty there; the other rows stay.
+    /// coefficient, shifted to the left, over 2 to the power of the row's right shift. A row's class, the half steps
+    /// that it may be off, is 0 where its right shift is 0, else 1 to the nearest and 2 where it floors. The rows have to
+    /// fit into the net, and to be empty there; the other rows stay.
     pub fn put_net<const N: usize>(&self, net: &mut Net<N>, at: usize)
         requires design { DesignFits self.now }
         requires room { at + length self.now.rows ≤ N }

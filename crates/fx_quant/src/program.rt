@@ -72,7 +72,7 @@ impl Design {
     {
         what_fits_has_no_fault();
         programs_fit(program);
-        match program.add_row(widths[i], self.shift(i), self.terms(i)) {
+        match program.add_row(widths[i], self.shift(i), self.mode(i), self.terms(i)) {
             Ok(()) => Ok(()),
             Err(fault) => Err(want_of_memory(fault)),
         }

@@ -26,7 +26,7 @@ ghost use Rattle.fx_quant.specs.Rows.{
 
 use crate::design::DesignRow;
 use crate::fault::QuantFault;
-use crate::formats::GREATEST_FRACTION;
+use crate::formats::{Formats, GREATEST_FRACTION};
 use crate::scaled::{Places, Rounded, Scaled};
 use fx_code::{CodeTerm, LONGEST_SHIFT, Read};
 use fx_eqs::PORTS;
@@ -195,16 +195,16 @@ fn code_terms(alloc: Global, shift: u16, terms: &[Scaled]) -> Result<Vec<CodeTer
 #[tactic(auto, using(crate::proofs::Faults::all_narrow, crate::proofs::Faults::fault_told))]
 pub(crate) fn quantised_row(
     alloc: Global,
-    accumulator: u8,
+    formats: &Formats,
     row: u8,
     terms: &[Scaled],
 ) -> Result<DesignRow, QuantFault>
     requires few { length terms.now < 2 ^ 8 }
     requires small { All IsSmall terms.now }
-    ensures { Gives is_memory row_of result (quantised_row accumulator row terms.now) }
+    ensures { Gives is_memory row_of result (quantised_row formats.now row terms.now) }
 {
     let shift = shift_of(terms);
-    if shifts_far(accumulator, shift, terms) {
+    if shifts_far(formats.accumulator, shift, terms) {
         return Err(QuantFault::ShiftRange(row));
     }
     if let Some(fault) = wide_fault(row, shift, terms) {
@@ -213,6 +213,7 @@ pub(crate) fn quantised_row(
     let terms = code_terms(alloc, shift, terms)?;
     Ok(DesignRow {
         shift: shift as u8,
+        mode: formats.mode,
         terms,
     })
 }

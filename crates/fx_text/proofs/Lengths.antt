@@ -1,22 +1,24 @@
 -- The text of a program is short: each line has at most 64 bytes.
 use Rattle.std.proofs.Common.{◌≡◌, ◌≤◌, ◌<◌, ◌+◌, ◌*◌, ◌^◌, ℕ, zero, suc, ℤ, pos, negsuc, unsigned_abs, List}
-use Rattle.std.proofs.Common.{[], ◌∷◌, ◌++◌, codes, decimal, length, All, length-append, arith, lit<}
-use Rattle.std.proofs.Math.Nat.{pow-le-pow_right}
+use Rattle.std.proofs.Common.{[], ◌∷◌, ◌++◌, codes, decimal, length, All, length-append, refl, arith, lit<}
 use Rattle.std.proofs.lemmas.Fmt.{length-decimal-le_wide}
 use Rattle.std.proofs.lemmas.List.Elements.{All-head, All-tail, All-weaker}
 use Rattle.std.proofs.lemmas.List.Sums.{sum_by-append}
 use Rattle.std.specs.Fmt.{signed_decimal}
-use Rattle.fx_code.specs.Code.{Row, Code, half_place}
+use Rattle.fx_eqs.specs.declared.mode.Mode.{Mode}
+use Rattle.fx_eqs.specs.declared.mode.Mode.TheVariants.{Nearest, Floor}
+use Rattle.fx_code.specs.Code.{Row, Code, constant_of}
 use Rattle.fx_code.specs.Fits.{TermFits, RowFits, CodeFits}
 use Rattle.fx_math.specs.Words.{WidthFits}
 use Rattle.fx_code.specs.Limits.{term_count}
 use Rattle.fx_code.specs.declared.term.CodeTerm.{CodeTerm}
 use Rattle.fx_code.specs.declared.term.Read.{Read}
 use Rattle.fx_code.specs.declared.term.Read.TheVariants.{Now, Old, In}
-use Rattle.fx_text.specs.Grammar.{first_line}
+use Rattle.fx_text.specs.Grammar.{first_line, shift_word}
 use Rattle.fx_text.specs.Writing.{head_line, input_line, input_lines, constant_line, source_text, term_line}
 use Rattle.fx_text.specs.Writing.{term_lines, store_line, row_lines, rows_lines, output_line, output_lines}
 use Rattle.fx_text.specs.Writing.{keep_line, keep_lines, code_text}
+use Rattle.fx_text.proofs.PartLaws.{constant_small}
 use Rattle.fx_text.proofs.Written.{number_of, IsSmall, rows_small}
 
 -- ---- lengths of joined texts
@@ -87,13 +89,19 @@ term_short shift t fits below =
     rw (seven_long (codes "  a += MUL(") (signed_decimal t.coef) (codes ", ") (source_text t.from) (codes ", ")
     (decimal t.left) (codes ");\n")) (omega arith)
 
-store_short : (i shift width : ℕ) → i < 100 → shift < 100 → width < 100 → length (store_line i shift width) ≤ 64
-store_short i shift width i_below shift_below width_below =
+shift_word_long : (mode : Mode) → length (shift_word mode) ≡ 3
+shift_word_long Nearest = refl
+shift_word_long Floor = refl
+
+store_short : (i : ℕ) (row : Row) → i < 100 → row.own.shift < 100 → row.width < 100 →
+    length (store_line i row) ≤ 64
+store_short i row i_below shift_below width_below =
     let a = short i i_below in
-    let b = short shift shift_below in
-    let c = short width width_below in
-    rw (seven_long (codes "  r") (decimal i) (codes " = LOW(SAR(a, ") (decimal shift) (codes "), ")
-    (decimal width) (codes ");\n")) (omega arith)
+    let b = short row.own.shift shift_below in
+    let c = short row.width width_below in
+    let d = shift_word_long row.own.mode in
+    rw (nine_long (codes "  r") (decimal i) (codes " = LOW(") (shift_word row.own.mode) (codes "(a, ")
+    (decimal row.own.shift) (codes "), ") (decimal row.width) (codes ");\n")) (omega arith)
 
 output_short : (j i : ℕ) → j < 100 → i < 100 → length (output_line j i) ≤ 64
 output_short j i j_below i_below =
@@ -132,21 +140,13 @@ terms_short shift (t ∷ ts) fits small =
     (terms_short shift ts (All-tail (TermFits shift) t ts fits)
     (All-tail (λ (x : CodeTerm). number_of x.from < 40) t ts small))
 
-constant_below : (shift : ℕ) → shift ≤ 62 → half_place shift < 2 ^ 63
-constant_below zero h = lit< tt
-constant_below (suc r) h =
-    let few : r ≤ 62 = omega arith in
-    let below : 2 ^ r ≤ 2 ^ 62 = pow-le-pow_right (lit< tt) few in
-    omega arith
-
 row_short : (i accumulator : ℕ) (row : Row) → i < 100 → RowFits accumulator row → IsSmall row →
-    length (row_lines i row) ≤ 128 + 64 * length row.terms
+    length (row_lines i row) ≤ 128 + 64 * length row.own.terms
 row_short i accumulator row below fits small =
-    let a = constant_short (half_place row.shift) (constant_below row.shift fits.shift_high) in
-    let b = terms_short row.shift row.terms fits.terms small in
-    let c = store_short i row.shift row.width below (omega (arith, fits.shift_high)) (omega (arith, fits.width.high)) in
-    rw (three_long (constant_line (half_place row.shift)) (term_lines row.terms)
-    (store_line i row.shift row.width)) (omega arith)
+    let a = constant_short (constant_of row.own) (constant_small row.own.mode row.own.shift fits.shift_high) in
+    let b = terms_short row.own.shift row.own.terms fits.terms small in
+    let c = store_short i row below (omega (arith, fits.shift_high)) (omega (arith, fits.width.high)) in
+    rw (three_long (constant_line (constant_of row.own)) (term_lines row.own.terms) (store_line i row)) (omega arith)
 
 rows_short : (i accumulator : ℕ) (rows : List Row) → i + length rows < 100 → All (RowFits accumulator) rows →
     All IsSmall rows → length (rows_lines i rows) ≤ 128 * length rows + 64 * term_count rows
@@ -156,8 +156,8 @@ rows_short i accumulator (row ∷ rows) few fits small =
     (All-head IsSmall row rows small) in
     let rest = rows_short (i + 1) accumulator rows (omega arith) (All-tail (RowFits accumulator) row rows fits)
     (All-tail IsSmall row rows small) in
-    let count : term_count (row ∷ rows) ≡ 0 + length row.terms + term_count rows =
-    sum_by-append (λ (r : Row). length r.terms) (row ∷ []) rows in
+    let count : term_count (row ∷ rows) ≡ 0 + length row.own.terms + term_count rows =
+    sum_by-append (λ (r : Row). length r.own.terms) (row ∷ []) rows in
     let both = length-append (row_lines i row) (rows_lines (i + 1) rows) in
     let total : length (row_lines i row) + length (rows_lines (i + 1) rows) ≤ 128 * suc (length rows)
     + 64 * term_count (row ∷ rows) = omega arith in

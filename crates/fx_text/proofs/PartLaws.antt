@@ -1,7 +1,8 @@
 -- What is read as a part of a program stands there, and what stands there is read.
-use Rattle.std.proofs.Common.{◌≡◌, ◌≤◌, ◌<◌, ◌-◌, ◌^◌, ◌==◌, ℕ, min, ℤ, pos, neg_ℤ, unsigned_abs, Bool}
+use Rattle.std.proofs.Common.{◌≡◌, ◌≤◌, ◌<◌, ◌-◌, ◌^◌, ◌==◌, ℕ, zero, suc, min, ℤ, pos, neg_ℤ, unsigned_abs, Bool}
 use Rattle.std.proofs.Common.{true, false, List, [], ◌∷◌, codes, decimal, drop, Option, Some, None, option_map}
-use Rattle.std.proofs.Common.{Ok, refl, sym, subst, arith, rules, inl, inr}
+use Rattle.std.proofs.Common.{Ok, refl, sym, subst, arith, rules, inl, inr, lit<}
+use Rattle.std.proofs.Math.Nat.{pow-le-pow_right}
 use Rattle.std.proofs.lemmas.Bool.{and_parts, false_from_ne_true, lt-leb}
 use Rattle.std.proofs.lemmas.Bool.Decides.{nat_tests}
 use Rattle.std.proofs.lemmas.Int.{ints}
@@ -10,7 +11,9 @@ use Rattle.std.specs.List.{list_all, list_any}
 use Rattle.std.specs.Option.{option_or}
 use Rattle.std.specs.Prelude.{nat_le}
 use Rattle.std.specs.Str.{bytes_eq}
-use Rattle.fx_code.specs.Code.{OldIsThere}
+use Rattle.fx_eqs.specs.declared.mode.Mode.{Mode}
+use Rattle.fx_eqs.specs.declared.mode.Mode.TheVariants.{Nearest, Floor}
+use Rattle.fx_code.specs.Code.{OldIsThere, constant_in}
 use Rattle.fx_code.specs.Limits.{same_source}
 use Rattle.fx_code.specs.declared.fault.LimitOf.TheVariants.{Inputs, Rows, Outputs, InputWidth, Width, Shift, Left}
 use Rattle.fx_code.specs.declared.term.CodeTerm.{CodeTerm}
@@ -18,16 +21,17 @@ use Rattle.fx_code.specs.declared.term.Read.{Read}
 use Rattle.fx_code.specs.declared.term.Read.TheVariants.{Now, Old, In}
 use Rattle.fx_text.specs.declared.parts.Head.{Head}
 use Rattle.fx_text.specs.declared.term.Place.{Place}
+use Rattle.fx_text.specs.declared.term.Store.{Store}
 use Rattle.fx_math.specs.Words.{is_accumulator}
 use Rattle.fx_nums.specs.Signs.{is_digit, signed}
 use Rattle.fx_text.specs.Tokens.{is_letter, is_word, begins, is_name, Lexeme, name, number, sign, text_of}
-use Rattle.fx_text.specs.Tokens.{HasLexemes, row_letter, old_letter, input_letter}
+use Rattle.fx_text.specs.Tokens.{HasLexemes, IsLexeme, row_letter, old_letter, input_letter}
 use Rattle.fx_text.specs.Grammar.{row_name, old_name, input_name, source_name, accumulator_name, next_number}
-use Rattle.fx_text.specs.Grammar.{closed, constant_tokens, SpellsCoefficient, factors_tokens}
+use Rattle.fx_text.specs.Grammar.{closed, constant_tokens, shift_word, SpellsCoefficient, factors_tokens}
 use Rattle.fx_text.specs.TokenReading.{is_nothing, name_number}
 use Rattle.fx_text.specs.Reading.{accumulator_at, head_at, input_at, sign_at, coefficient_at, source_of}
 use Rattle.fx_text.specs.Reading.{is_ahead, checked_source, source_at, term_at, statement_at, constant_at}
-use Rattle.fx_text.specs.Reading.{store_begins_at, store_at, row_name_at, output_at, end_at}
+use Rattle.fx_text.specs.Reading.{mode_at, store_begins_at, store_at, row_name_at, output_at, end_at}
 use Rattle.fx_text.proofs.Bytes.{IsDigits, decimal_digits}
 use Rattle.fx_text.proofs.TokenLaws.{Sound, sound_bind, sound_ok, sound_err, sound_if, After, after_bind}
 use Rattle.fx_text.proofs.TokenLaws.{after_ok, Back, back_then, Reads, token_sound, word_back, expect_sound}
@@ -481,60 +485,98 @@ constant_again text at n ts below h =
     after_bind _ (expect_again (sign (codes ";")) text b _ refl k2) (λ c k3.
     after_ok (λ x. (n, x)) text ts c k3)))
 
--- `= LOW ( SAR ( a`
-abbrev pub store_begins : List Lexeme → List Lexeme
-store_begins rest = sign (codes "=") ∷ name (codes "LOW") ∷ sign (codes "(") ∷ name (codes "SAR") ∷ sign
+-- a row's constant is a number that may be read
+pub constant_small : (mode : Mode) (shift : ℕ) → shift ≤ 62 → constant_in mode shift < 2 ^ 63
+constant_small Nearest zero h = lit< tt
+constant_small Nearest (suc r) h =
+    let few : r ≤ 62 = omega arith in
+    let below : 2 ^ r ≤ 2 ^ 62 = pow-le-pow_right (lit< tt) few in
+    omega arith
+constant_small Floor shift h = lit< tt
+
+-- the word of each mode is a name
+pub shift_named : (mode : Mode) → IsLexeme (name (shift_word mode))
+shift_named Nearest = refl
+shift_named Floor = refl
+
+-- the mode that a word stands for
+mode_sound : (text : List ℕ) (at : ℕ) →
+    Sound (mode_at text at) (λ m. Back text at m.1 (λ ts. name (shift_word m.0) ∷ ts))
+unfolding mode_at
+mode_sound text at =
+    sound_bind (token_sound text at) (λ t r.
+    sound_if (bytes_eq t.1 (shift_word Nearest)) _ _ (λ nearest.
+    sound_ok (Nearest, t.2) (fixed_back text at (name (shift_word Nearest)) t refl r nearest)) (λ other.
+    sound_if (bytes_eq t.1 (shift_word Floor)) _ _ (λ floor.
+    sound_ok (Floor, t.2) (fixed_back text at (name (shift_word Floor)) t refl r floor)) (λ neither.
+    sound_err _)))
+
+mode_again : (text : List ℕ) (at : ℕ) (mode : Mode) (ts : List Lexeme) →
+    HasLexemes (drop at text) (name (shift_word mode) ∷ ts) → After (mode_at text at) (λ e. (mode, e)) text ts
+unfolding mode_at
+mode_again text at Nearest ts h =
+    let t = fixed_again text at (name (shift_word Nearest)) ts refl h in
+    record { place = t.place; is = rw t.is refl; has = t.has }
+mode_again text at Floor ts h =
+    let t = fixed_again text at (name (shift_word Floor)) ts refl h in
+    record { place = t.place; is = rw t.is refl; has = t.has }
+
+-- `= LOW ( SAR ( a` or `= LOW ( FLR ( a`
+abbrev pub store_begins : Mode → List Lexeme → List Lexeme
+store_begins mode rest = sign (codes "=") ∷ name (codes "LOW") ∷ sign (codes "(") ∷ name (shift_word mode) ∷ sign
     (codes "(") ∷ accumulator_name ∷ rest
 
 -- a store behind its name
-abbrev pub stored : ℕ → ℕ → List Lexeme → List Lexeme
-stored shift width rest = store_begins (next_number shift (sign (codes ")") ∷ next_number width (closed rest)))
+abbrev pub stored : Store → List Lexeme → List Lexeme
+stored s rest =
+    store_begins s.mode (next_number s.shift (sign (codes ")") ∷ next_number s.width (closed rest)))
 
-store_begins_sound : (text : List ℕ) (at : ℕ) → Sound (store_begins_at text at) (λ b. Back text at b store_begins)
+store_begins_sound : (text : List ℕ) (at : ℕ) →
+    Sound (store_begins_at text at) (λ m. Back text at m.1 (store_begins m.0))
 unfolding store_begins_at
 store_begins_sound text at =
     sound_bind (pair_sound (sign (codes "=")) (name (codes "LOW")) text at refl refl) (λ a a_back.
-    sound_bind (pair_sound (sign (codes "(")) (name (codes "SAR")) text a refl refl) (λ b b_back.
-    record {
-      holds = λ y e. back_then a_back
-          (back_then b_back ((pair_sound (sign (codes "(")) accumulator_name text b refl refl).holds y e));
-    }))
+    sound_bind (expect_sound (sign (codes "(")) text a refl) (λ b b_back.
+    sound_bind (mode_sound text b) (λ m m_back.
+    sound_bind (pair_sound (sign (codes "(")) accumulator_name text m.1 refl refl) (λ c c_back.
+    sound_ok (m.0, c) (back_then a_back (back_then b_back (back_then m_back c_back)))))))
 
-store_begins_again : (text : List ℕ) (at : ℕ) (ts : List Lexeme) →
-    HasLexemes (drop at text) (store_begins ts) → After (store_begins_at text at) (λ e. e) text ts
+store_begins_again : (text : List ℕ) (at : ℕ) (mode : Mode) (ts : List Lexeme) →
+    HasLexemes (drop at text) (store_begins mode ts) → After (store_begins_at text at) (λ e. (mode, e)) text ts
 unfolding store_begins_at
-store_begins_again text at ts h =
+store_begins_again text at mode ts h =
     after_bind _ (pair_again (sign (codes "=")) (name (codes "LOW")) text at _ refl refl h) (λ a k.
-    after_bind _ (pair_again (sign (codes "(")) (name (codes "SAR")) text a _ refl refl k) (λ b k2.
-    pair_again (sign (codes "(")) accumulator_name text b ts refl refl k2))
+    after_bind _ (expect_again (sign (codes "(")) text a _ refl k) (λ b k2.
+    after_bind _ (mode_again text b mode _ k2) (λ c k3.
+    after_bind _ (pair_again (sign (codes "(")) accumulator_name text c ts refl refl k3) (λ d k4.
+    after_ok (λ x. (mode, x)) text ts d k4))))
 
 pub store_sound : (accumulator : ℕ) (text : List ℕ) (at : ℕ) →
-    Sound (store_at accumulator text at) (λ s. Back text at s.2 (stored s.0 s.1))
+    Sound (store_at accumulator text at) (λ s. Back text at s.1 (stored s.0))
 unfolding store_at
 store_sound accumulator text at =
-    sound_bind (store_begins_sound text at) (λ a a_back.
-    sound_bind (next_sound Shift 0 (min 62 (accumulator - 1)) text a) (λ s s_read.
+    sound_bind (store_begins_sound text at) (λ m m_back.
+    sound_bind (next_sound Shift 0 (min 62 (accumulator - 1)) text m.1) (λ s s_read.
     sound_bind (expect_sound (sign (codes ")")) text s.1 refl) (λ b b_back.
     sound_bind (next_sound Width 2 (min 32 accumulator) text b) (λ w w_read.
     sound_bind (pair_sound (sign (codes ")")) (sign (codes ";")) text w.1 refl refl) (λ d d_back.
-    sound_ok (s.0, w.0, d) (back_then a_back
+    sound_ok (record { mode = m.0; shift = s.0; width = w.0 }, d) (back_then m_back
     (back_then s_read.back (back_then b_back (back_then w_read.back d_back)))))))))
 
-pub store_again : (accumulator shift width : ℕ) (text : List ℕ) (at : ℕ) (ts : List Lexeme) →
-    shift ≤ min 62 (accumulator - 1) → 2 ≤ width → width ≤ min 32 accumulator →
-    HasLexemes (drop at text) (stored shift width ts) →
-    After (store_at accumulator text at) (λ e. (shift, width, e)) text ts
+pub store_again : (accumulator : ℕ) (s : Store) (text : List ℕ) (at : ℕ) (ts : List Lexeme) →
+    s.shift ≤ min 62 (accumulator - 1) → 2 ≤ s.width → s.width ≤ min 32 accumulator →
+    HasLexemes (drop at text) (stored s ts) → After (store_at accumulator text at) (λ e. (s, e)) text ts
 unfolding store_at
-store_again accumulator shift width text at ts shift_high low high h =
-    let shift_below : shift < 2 ^ 63 = omega arith in
-    let width_below : width < 2 ^ 63 = omega arith in
-    after_bind _ (store_begins_again text at _ h) (λ a k.
-    after_bind _ (next_again Shift 0 (min 62 (accumulator - 1)) text a shift _ (omega arith) shift_high
+store_again accumulator s text at ts shift_high low high h =
+    let shift_below : s.shift < 2 ^ 63 = omega arith in
+    let width_below : s.width < 2 ^ 63 = omega arith in
+    after_bind _ (store_begins_again text at s.mode _ h) (λ a k.
+    after_bind _ (next_again Shift 0 (min 62 (accumulator - 1)) text a s.shift _ (omega arith) shift_high
     shift_below k) (λ b k2.
     after_bind _ (expect_again (sign (codes ")")) text b _ refl k2) (λ c k3.
-    after_bind _ (next_again Width 2 (min 32 accumulator) text c width _ low high width_below k3) (λ d k4.
+    after_bind _ (next_again Width 2 (min 32 accumulator) text c s.width _ low high width_below k3) (λ d k4.
     after_bind _ (pair_again (sign (codes ")")) (sign (codes ";")) text d _ refl refl k4) (λ e k5.
-    after_ok (λ x. (shift, width, x)) text ts e k5)))))
+    after_ok (λ x. (s, x)) text ts e k5)))))
 
 -- ---- an output
 

@@ -1,18 +1,17 @@
 -- A program that a text spells is read from it.
-use Rattle.std.proofs.Common.{◌≡◌, ◌≤◌, ◌<◌, ◌+◌, ◌^◌, ◌∙◌, ◌==◌, ℕ, zero, suc, Bool, true, false, cond, List}
+use Rattle.std.proofs.Common.{◌≡◌, ◌≤◌, ◌<◌, ◌+◌, ◌∙◌, ◌==◌, ℕ, zero, suc, Bool, true, false, cond, List}
 use Rattle.std.proofs.Common.{[], ◌∷◌, ◌++◌, codes, length, drop, All, Option, None, Result, Ok, Err, refl, sym}
-use Rattle.std.proofs.Common.{ap, subst, append_assoc, length-append, slice_index_or, arith, lit<}
+use Rattle.std.proofs.Common.{ap, subst, append_assoc, length-append, slice_index_or, arith}
 use Rattle.std.proofs.lemmas.Bool.{eq-eqb, lt-leb}
 use Rattle.std.proofs.lemmas.Bool.Decides.{Decides-eqb}
 use Rattle.std.proofs.lemmas.List.{append-nil, drop_at}
 use Rattle.std.proofs.lemmas.List.Elements.{All-head, All-tail, All-get_or}
 use Rattle.std.proofs.lemmas.List.Sums.{sum_by-append}
 use Rattle.std.proofs.lemmas.Slice.Eq.{starts_is}
-use Rattle.std.proofs.Math.Nat.{pow-le-pow_right}
 use Rattle.std.proofs.Math.Seq.{get_or-append_seam}
 use Rattle.std.specs.List.{starts_with, list_any}
 use Rattle.std.specs.Prelude.{nat_eq}
-use Rattle.fx_code.specs.Code.{Row, Code, IsWhole, OldIsThere, half_place, row_at}
+use Rattle.fx_code.specs.Code.{Row, Code, IsWhole, OldIsThere, constant_of, no_row, row_at}
 use Rattle.fx_code.specs.Fits.{TermFits, RowFits, SourceFits, ReadsFit, CodeFits}
 use Rattle.fx_math.specs.Words.{WidthFits}
 use Rattle.fx_code.specs.Limits.{same_source, start_fault, row_fault, output_fault, term_count}
@@ -23,6 +22,7 @@ use Rattle.fx_code.specs.declared.fault.ProgramFault.{ProgramFault}
 use Rattle.fx_text.specs.declared.fault.CodeFault.{CodeFault}
 use Rattle.fx_text.specs.declared.parts.Head.{Head}
 use Rattle.fx_text.specs.declared.term.Place.{Place}
+use Rattle.fx_text.specs.declared.term.Store.{Store}
 use Rattle.fx_text.specs.Tokens.{Lexeme, sign, HasLexemes, row_letter, old_letter}
 use Rattle.fx_text.specs.Grammar.{row_name, old_name, SpellsTerms, SpellsRow, SpellsRows, inputs_tokens}
 use Rattle.fx_text.specs.Grammar.{outputs_tokens, keeps_tokens, last_tokens, Spells, first_line}
@@ -34,8 +34,8 @@ use Rattle.fx_text.proofs.TermTurns.{terms_law}
 use Rattle.fx_text.proofs.TokenLaws.{After, after_bind, after_ok, expect_again}
 use Rattle.fx_text.proofs.NumberLaws.{due_again}
 use Rattle.fx_text.proofs.PartLaws.{HeadFits, head_again, input_again, IsBelow, SourcePasses, TermPasses}
-use Rattle.fx_text.proofs.PartLaws.{term_again, statement_of_term, statement_of_store, constant_again, stored}
-use Rattle.fx_text.proofs.PartLaws.{store_again, output_again, end_read}
+use Rattle.fx_text.proofs.PartLaws.{term_again, statement_of_term, statement_of_store, constant_small}
+use Rattle.fx_text.proofs.PartLaws.{constant_again, stored, store_again, output_again, end_read}
 use Rattle.fx_code.proofs.Fitting.{ReadOnce, distinct_once, start_passes, row_passes, output_passes}
 
 -- ---- steps
@@ -175,28 +175,25 @@ record RowMay (rows : ℕ) (p : Code) (row : Row) : Type 0 where
   wide : 16 ≤ p.accumulator
   fits : RowFits p.accumulator row
   reads : ReadsFit (length p.rows) (length p.inputs) row
-  there : All (λ (t : CodeTerm). OldIsThere rows t.from) row.terms
-  terms : term_count p.rows + length row.terms ≤ 624
-
-constant_small : (shift : ℕ) → shift ≤ 62 → half_place shift < 2 ^ 63
-constant_small zero h = lit< tt
-constant_small (suc r) h =
-    let few : r ≤ 62 = omega arith in
-    let below : 2 ^ r ≤ 2 ^ 62 = pow-le-pow_right (lit< tt) few in
-    omega arith
+  there : All (λ (t : CodeTerm). OldIsThere rows t.from) row.own.terms
+  terms : term_count p.rows + length row.own.terms ≤ 624
 
 unless_none : {A : Type 0} (o : Option ProgramFault) (x : A) → o ≡ None → unless_fault o x ≡ Ok x
 unless_none o x e = rw e refl
 
+-- the store of a row
+abbrev store_of : Row → Store
+store_of row = record { mode = row.own.mode; shift = row.own.shift; width = row.width }
+
 row_stepped : (rows : ℕ) (p : Code) (row : Row) (text : List ℕ) (at a b c : ℕ) →
-    constant_at text at ≡ Ok (half_place row.shift, a) →
-    terms_at (place_of rows p) [] text a ≡ Ok (row.terms, b) →
-    store_at p.accumulator text b ≡ Ok (row.shift, row.width, c) → row_fault p row ≡ None
+    constant_at text at ≡ Ok (constant_of row.own, a) →
+    terms_at (place_of rows p) [] text a ≡ Ok (row.own.terms, b) →
+    store_at p.accumulator text b ≡ Ok (store_of row, c) → row_fault p row ≡ None
     → row_more rows text (p, at) ≡ Ok (row_on p row, c)
 unfolding row_more
 row_stepped rows p row text at a b c constant terms store passes =
-    let same : (half_place row.shift == half_place row.shift) ≡ true =
-    eq-eqb (half_place row.shift) (half_place row.shift) refl in
+    let same : (constant_of row.own == constant_of row.own) ≡ true =
+    eq-eqb (constant_of row.own) (constant_of row.own) refl in
     rw (constant, terms, store, unless_none (row_fault p row) (row_on p row) passes, same) refl
 
 row_again : (rows : ℕ) (p : Code) (row : Row) (text : List ℕ) (at : ℕ) (tokens ts : List Lexeme) →
@@ -204,14 +201,14 @@ row_again : (rows : ℕ) (p : Code) (row : Row) (text : List ℕ) (at : ℕ) (to
     After (row_more rows text (p, at)) (λ e. (row_on p row, e)) text ts
 row_again rows p row text at tokens ts may spells h =
     let has = rw spells.constant at h in
-    let constant = constant_again text at (half_place row.shift) spells.terms
-    (constant_small row.shift may.fits.shift_high) has in
-    let pass = terms_may (length p.rows) rows (length p.inputs) row.shift [] row.terms may.below may.fits.terms
-    may.reads.sources may.there (distinct_once row.terms may.reads.once) in
-    let terms = terms_again (place_of rows p) [] row.terms text constant.place spells.terms
-    (stored row.shift row.width ts) (omega (arith, may.below, may.rows_high)) may.rows_high may.inputs_high
+    let constant = constant_again text at (constant_of row.own) spells.terms
+    (constant_small row.own.mode row.own.shift may.fits.shift_high) has in
+    let pass = terms_may (length p.rows) rows (length p.inputs) row.own.shift [] row.own.terms may.below
+    may.fits.terms may.reads.sources may.there (distinct_once row.own.terms may.reads.once) in
+    let terms = terms_again (place_of rows p) [] row.own.terms text constant.place spells.terms
+    (stored (store_of row) ts) (omega (arith, may.below, may.rows_high)) may.rows_high may.inputs_high
     pass spells.each constant.has in
-    let store = store_again p.accumulator row.shift row.width text terms.place ts
+    let store = store_again p.accumulator (store_of row) text terms.place ts
     (omega (arith, may.fits.shift_high, may.fits.shift_kept)) may.fits.width.low
     (omega (arith, may.fits.width.high, may.fits.width_kept)) terms.has in
     let passes = row_passes p row (omega (arith, may.below, may.rows_high)) may.wide may.fits may.reads may.terms in
@@ -265,17 +262,16 @@ rows_may p front (row ∷ more) fits whole split =
     let count : length p.rows ≡ n + suc (length more) = ap length split ∙ length-append front (row ∷ more) in
     let below : n < length p.rows = omega arith in
     let here : row_at p n ≡ row =
-    ap (λ (rs : List Row). slice_index_or rs n (record { width = 0; shift = 0; terms = [] })) split
-    ∙ get_or-append_seam front row more (record { width = 0; shift = 0; terms = [] }) in
+    ap (λ (rs : List Row). slice_index_or rs n no_row) split ∙ get_or-append_seam front row more no_row in
     let total : term_count p.rows ≡ term_count front + term_count (row ∷ more) =
-    ap term_count split ∙ sum_by-append (λ (r : Row). length r.terms) front (row ∷ more) in
-    let one : term_count (row ∷ more) ≡ 0 + length row.terms + term_count more =
-    sum_by-append (λ (r : Row). length r.terms) (row ∷ []) more in
+    ap term_count split ∙ sum_by-append (λ (r : Row). length r.own.terms) front (row ∷ more) in
+    let one : term_count (row ∷ more) ≡ 0 + length row.own.terms + term_count more =
+    sum_by-append (λ (r : Row). length r.own.terms) (row ∷ []) more in
     let row_fits : RowFits p.accumulator row =
     subst (RowFits p.accumulator) here (All-get_or (RowFits p.accumulator) p.rows n _ below fits.rows) in
-    let there : All (λ (t : CodeTerm). OldIsThere (length p.rows) t.from) row.terms =
-    subst (λ (r : Row). All (λ (t : CodeTerm). OldIsThere (length p.rows) t.from) r.terms) here
-    (All-get_or (λ (r : Row). All (λ (t : CodeTerm). OldIsThere (length p.rows) t.from) r.terms) p.rows n _
+    let there : All (λ (t : CodeTerm). OldIsThere (length p.rows) t.from) row.own.terms =
+    subst (λ (r : Row). All (λ (t : CodeTerm). OldIsThere (length p.rows) t.from) r.own.terms) here
+    (All-get_or (λ (r : Row). All (λ (t : CodeTerm). OldIsThere (length p.rows) t.from) r.own.terms) p.rows n _
     below whole.reads) in (
       record {
         below = below;

@@ -9,7 +9,7 @@ use Rattle.std.proofs.lemmas.List.Elements.{All-nil, All-cons}
 use Rattle.std.proofs.lemmas.Slice.Eq.{starts_is}
 use Rattle.std.specs.List.{starts_with}
 use Rattle.std.specs.Prelude.{nat_eq}
-use Rattle.fx_code.specs.Code.{Row, Code, IsWhole, OldIsThere, half_place}
+use Rattle.fx_code.specs.Code.{Row, Code, IsWhole, OldIsThere, constant_in}
 use Rattle.fx_code.specs.Fits.{CodeFits}
 use Rattle.fx_code.specs.Limits.{start_fault, row_fault, output_fault}
 use Rattle.fx_code.specs.declared.term.CodeTerm.{CodeTerm}
@@ -22,7 +22,7 @@ use Rattle.fx_text.specs.Grammar.{SpellsRows, inputs_tokens, outputs_tokens, kee
 use Rattle.fx_text.specs.Grammar.{first_line}
 use Rattle.fx_text.specs.TokenReading.{repeated, first_line_at}
 use Rattle.fx_text.specs.Reading.{input_more, terms_within, place_of, unless_fault, checked_constant}
-use Rattle.fx_text.specs.Reading.{row_more, output_more, keep_more, body_at, code_in}
+use Rattle.fx_text.specs.Reading.{row_more, stored_row, output_more, keep_more, body_at, code_in}
 use Rattle.fx_text.proofs.TokenLaws.{Sound, sound_bind, sound_ok, sound_err, sound_if, Back, back_then, expect_sound}
 use Rattle.fx_text.proofs.NumberLaws.{due_sound}
 use Rattle.fx_text.proofs.PartLaws.{HeadFits, HeadRead, head_spelled, head_sound, input_spelled, input_sound}
@@ -115,9 +115,9 @@ unless_sound : {A : Type 0} (o : Option ProgramFault) (x : A) → Sound (unless_
 unless_sound (Some fault) x = sound_err _
 unless_sound None x = sound_ok x (refl, refl)
 
-constant_checked : (row got shift : ℕ) → Sound (checked_constant row got shift) (λ _. got ≡ half_place shift)
-constant_checked row got shift =
-    sound_if (got == half_place shift) _ _ (λ same. sound_ok tt (eqb-true got (half_place shift) same))
+constant_checked : (row got wanted : ℕ) → Sound (checked_constant row got wanted) (λ _. got ≡ wanted)
+constant_checked row got wanted =
+    sound_if (got == wanted) _ _ (λ same. sound_ok tt (eqb-true got wanted same))
     (λ other. sound_err _)
 
 -- the program with one more row
@@ -128,7 +128,7 @@ record RowRead (rows : ℕ) (p : Code) (text : List ℕ) (at : ℕ) (q : Code ×
   row : Row
   is : row_on p row ≡ q.0
   passes : row_fault p row ≡ None
-  there : All (λ (t : CodeTerm). OldIsThere rows t.from) row.terms
+  there : All (λ (t : CodeTerm). OldIsThere rows t.from) row.own.terms
   spelled : (ts : List Lexeme) → HasLexemes (drop q.1 text) ts →
       (tokens : List Lexeme) × SpellsRow (length p.rows) row tokens ts × HasLexemes (drop at text) tokens
 
@@ -139,24 +139,24 @@ row_sound rows p text at few inputs =
     sound_bind (constant_sound text at) (λ c c_read.
     sound_bind (terms_sound (suc (length text)) (place_of rows p) [] text c.1 few inputs) (λ t t_read.
     sound_bind (store_sound p.accumulator text t.1) (λ s s_back.
-    sound_bind (unless_sound (row_fault p (record { width = s.1; shift = s.0; terms = t.0 }))
-    (row_on p (record { width = s.1; shift = s.0; terms = t.0 }))) (λ q added.
-    sound_bind (constant_checked (length p.rows) c.0 s.0) (λ u same.
+    let row : Row = stored_row t.0 s.0 in
+    sound_bind (unless_sound (row_fault p row) (row_on p row)) (λ q added.
+    sound_bind (constant_checked (length p.rows) c.0 (constant_in s.0.mode s.0.shift)) (λ u same.
     let terms : t_read.more ≡ t.0 = sym t_read.is in
-    sound_ok (q, s.2) (record {
-      row = record { width = s.1; shift = s.0; terms = t.0 };
+    sound_ok (q, s.1) (record {
+      row = row;
       is = added.1;
       passes = added.0;
       there = subst (All (λ (x : CodeTerm). OldIsThere rows x.from)) terms t_read.there;
       spelled = λ ts h.
-          let (tokens, spells, has) = t_read.spelled (stored s.0 s.1 ts) (s_back.back ts h) in (
+          let (tokens, spells, has) = t_read.spelled (stored s.0 ts) (s_back.back ts h) in (
             constant_tokens c.0 tokens,
             record {
               terms = tokens;
               constant =
                   ap (λ (n : ℕ). constant_tokens n tokens) same;
               each =
-                  subst (λ (x : List CodeTerm). SpellsTerms x tokens (row_name (length p.rows) ∷ stored s.0 s.1 ts))
+                  subst (λ (x : List CodeTerm). SpellsTerms x tokens (row_name (length p.rows) ∷ stored s.0 ts))
                   terms spells;
             },
             c_read.back.back tokens has,
@@ -168,7 +168,7 @@ abbrev rows_on : Code → List Row → Code
 rows_on p rows = record p { rows = p.rows ++ rows }
 
 abbrev OldAreThere : ℕ → Row → Type 0
-OldAreThere rows row = All (λ (t : CodeTerm). OldIsThere rows t.from) row.terms
+OldAreThere rows row = All (λ (t : CodeTerm). OldIsThere rows t.from) row.own.terms
 
 record RowsRead (rows k : ℕ) (p : Code) (text : List ℕ) (at : ℕ) (q : Code × ℕ) : Type 0 where
   more : List Row

@@ -4,7 +4,7 @@ use Rattle.std.proofs.Common.{◌++◌, codes, decimal, length, All, refl, sym, 
 use Rattle.std.proofs.Common.{rules, inl, inr}
 use Rattle.std.proofs.lemmas.List.Elements.{All-head, All-tail, All-weaker, All-from_get_or}
 use Rattle.std.specs.Fmt.{signed_decimal}
-use Rattle.fx_code.specs.Code.{Row, Code, IsWhole, half_place, row_at}
+use Rattle.fx_code.specs.Code.{Row, Code, IsWhole, constant_of, no_row, row_at}
 use Rattle.fx_code.specs.Fits.{SourceFits, CodeFits}
 use Rattle.fx_code.specs.declared.term.CodeTerm.{CodeTerm}
 use Rattle.fx_code.specs.declared.term.Read.{Read}
@@ -14,12 +14,13 @@ use Rattle.fx_text.specs.Tokens.{is_word, begins, is_name, is_sign, Lexeme, name
 use Rattle.fx_text.specs.Tokens.{row_letter, old_letter, input_letter}
 use Rattle.fx_text.specs.Grammar.{input_name, source_name, accumulator_name, next_number, closed, head_tokens}
 use Rattle.fx_text.specs.Grammar.{inputs_tokens, constant_tokens, SpellsCoefficient, factors_tokens, SpellsTerm}
-use Rattle.fx_text.specs.Grammar.{SpellsTerms, store_tokens, SpellsRow, SpellsRows, outputs_tokens}
+use Rattle.fx_text.specs.Grammar.{SpellsTerms, shift_word, store_tokens, SpellsRow, SpellsRows, outputs_tokens}
 use Rattle.fx_text.specs.Grammar.{keeps_tokens, last_tokens, Spells}
 use Rattle.fx_text.specs.Writing.{head_line, input_line, input_lines, constant_line, source_text, term_line}
 use Rattle.fx_text.specs.Writing.{term_lines, store_line, row_lines, rows_lines, output_line, output_lines}
 use Rattle.fx_text.specs.Writing.{keep_line, keep_lines, code_text}
 use Rattle.fx_text.proofs.NumberLaws.{numbered_named}
+use Rattle.fx_text.proofs.PartLaws.{shift_named}
 
 -- ---- one token before others
 
@@ -214,20 +215,20 @@ terms_written (t ∷ terms) text ts below h =
           along _ _ _ (append_assoc (term_line t) (term_lines terms) text) one.has;
     }
 
-store_written : (i shift width : ℕ) (text : List ℕ) (ts : List Lexeme) → i < 10 ^ 64 → HasLexemes text ts →
-    HasLexemes (store_line i shift width ++ text) (store_tokens i shift width ts)
-store_written i shift width text ts below h =
-    along _ _ _ (seven (codes "  r") (decimal i) (codes " = LOW(SAR(a, ") (decimal shift) (codes "), ")
-    (decimal width) (codes ");\n") text) (
+store_written : (i : ℕ) (row : Row) (text : List ℕ) (ts : List Lexeme) → i < 10 ^ 64 → HasLexemes text ts →
+    HasLexemes (store_line i row ++ text) (store_tokens i row ts)
+store_written i row text ts below h =
+    along _ _ _ (nine (codes "  r") (decimal i) (codes " = LOW(") (shift_word row.own.mode) (codes "(a, ")
+    (decimal row.own.shift) (codes "), ") (decimal row.width) (codes ");\n") text) (
     space_before _ _ (space_before _ _
     (name_before (row_letter ∷ decimal i) _ _ (numbered_named row_letter i refl below) refl
     (space_before _ _ (sign_before (codes "=") _ _ refl (space_before _ _ (
     name_before (codes "LOW") _ _ refl refl
     (sign_before (codes "(") _ _ refl
-    (name_before (codes "SAR") _ _ refl refl (sign_before (codes "(") _ _ refl (
+    (name_before (shift_word row.own.mode) _ _ (shift_named row.own.mode) refl (sign_before (codes "(") _ _ refl (
     name_before (codes "a") _ _ refl refl
-    (next_before shift _ _ refl
-    (sign_before (codes ")") _ _ refl (next_before width _ _ refl (closed_before text ts h)))))))))))))))
+    (next_before row.own.shift _ _ refl
+    (sign_before (codes ")") _ _ refl (next_before row.width _ _ refl (closed_before text ts h)))))))))))))))
 
 record RowWritten (i : ℕ) (row : Row) (text : List ℕ) (ts : List Lexeme) : Type 0 where
   tokens : List Lexeme
@@ -235,19 +236,19 @@ record RowWritten (i : ℕ) (row : Row) (text : List ℕ) (ts : List Lexeme) : T
   has : HasLexemes (row_lines i row ++ text) tokens
 
 row_written : (i : ℕ) (row : Row) (text : List ℕ) (ts : List Lexeme) → i < 10 ^ 64 →
-    All (λ (t : CodeTerm). number_of t.from < 10 ^ 64) row.terms → HasLexemes text ts → RowWritten i row text ts
+    All (λ (t : CodeTerm). number_of t.from < 10 ^ 64) row.own.terms → HasLexemes text ts → RowWritten i row text ts
 row_written i row text ts below sources h =
-    let terms = terms_written row.terms (store_line i row.shift row.width ++ text) _ sources
-    (store_written i row.shift row.width text ts below h) in
+    let terms = terms_written row.own.terms (store_line i row ++ text) _ sources
+    (store_written i row text ts below h) in
     record {
-      tokens = constant_tokens (half_place row.shift) terms.tokens;
+      tokens = constant_tokens (constant_of row.own) terms.tokens;
       spells = record { terms = terms.tokens; constant = refl; each = terms.spells };
-      has = along _ _ _ (three (constant_line (half_place row.shift)) (term_lines row.terms)
-          (store_line i row.shift row.width) text) (constant_written (half_place row.shift) _ _ terms.has);
+      has = along _ _ _ (three (constant_line (constant_of row.own)) (term_lines row.own.terms)
+          (store_line i row) text) (constant_written (constant_of row.own) _ _ terms.has);
     }
 
 abbrev HasNumbers : Row → Type 0
-HasNumbers row = All (λ (t : CodeTerm). number_of t.from < 10 ^ 64) row.terms
+HasNumbers row = All (λ (t : CodeTerm). number_of t.from < 10 ^ 64) row.own.terms
 
 record RowsWritten (i : ℕ) (rows : List Row) (text : List ℕ) (ts : List Lexeme) : Type 0 where
   tokens : List Lexeme
@@ -323,19 +324,19 @@ source_small rows inputs n (In j) few inputs_few h = omega arith
 
 -- all sources of a row have small numbers
 abbrev pub IsSmall : Row → Type 0
-IsSmall row = All (λ (t : CodeTerm). number_of t.from < 40) row.terms
+IsSmall row = All (λ (t : CodeTerm). number_of t.from < 40) row.own.terms
 
 pub rows_small : (p : Code) → CodeFits p → All IsSmall p.rows
-rows_small p fits = All-from_get_or IsSmall p.rows (record { width = 0; shift = 0; terms = [] }) (λ n below.
+rows_small p fits = All-from_get_or IsSmall p.rows no_row (λ n below.
     let reads = fits.reads n below in
     All-weaker (λ (t : CodeTerm). SourceFits n (length p.inputs) t.from) (λ (t : CodeTerm).
     number_of t.from < 40) (λ t h.
     source_small (length p.rows) (length p.inputs) n t.from (omega (arith, fits.rows_high)) fits.inputs_high
-    h) (row_at p n).terms reads.sources)
+    h) (row_at p n).own.terms reads.sources)
 
 small_numbers : (row : Row) → IsSmall row → HasNumbers row
 small_numbers row h = All-weaker (λ (t : CodeTerm). number_of t.from < 40) (λ (t : CodeTerm).
-    number_of t.from < 10 ^ 64) (λ t below. omega arith) row.terms h
+    number_of t.from < 10 ^ 64) (λ t below. omega arith) row.own.terms h
 
 pub written_law : (p : Code) → CodeFits p → IsWhole p → Spells (code_text p) p
 written_law p fits whole =

@@ -1,7 +1,9 @@
 -- Which texts spell a program.
 use Rattle.std.specs.Prelude.{◌≡◌, ℕ, zero, suc, ◌+◌, ℤ, pos, neg_ℤ, List, [], ◌∷◌, ◌++◌, length, codes, ◌⊎◌}
 use Rattle.std.specs.Fmt.{decimal}
-use Rattle.fx_code.specs.Code.{Row, Code, IsWhole, half_place}
+use Rattle.fx_eqs.specs.declared.mode.Mode.{Mode}
+use Rattle.fx_eqs.specs.declared.mode.Mode.TheVariants.{Nearest, Floor}
+use Rattle.fx_code.specs.Code.{Row, Code, IsWhole, constant_of}
 use Rattle.fx_code.specs.Fits.{CodeFits}
 use Rattle.fx_code.specs.declared.term.CodeTerm.{CodeTerm}
 use Rattle.fx_code.specs.declared.term.Read.{Read}
@@ -78,18 +80,23 @@ SpellsTerms [] tokens rest = tokens ≡ rest
 SpellsTerms (t ∷ ts) tokens rest =
     (more : List Lexeme) × SpellsTerm t tokens more × SpellsTerms ts more rest
 
--- `rI = LOW ( SAR ( a , shift ) , width ) ;`
-abbrev pub store_tokens : ℕ → ℕ → ℕ → List Lexeme → List Lexeme
-store_tokens i shift width rest =
+-- what a row's right shift is written with: to the nearest, or down
+abbrev pub shift_word : Mode → List ℕ
+shift_word Nearest = codes "SAR"
+shift_word Floor = codes "FLR"
+
+-- `rI = LOW ( SAR ( a , shift ) , width ) ;`, with `FLR` in place of `SAR` where the row floors
+abbrev pub store_tokens : ℕ → Row → List Lexeme → List Lexeme
+store_tokens i row rest =
     row_name i ∷ sign (codes "=") ∷ name (codes "LOW") ∷ sign (codes "(")
-    ∷ name (codes "SAR") ∷ sign (codes "(") ∷ accumulator_name ∷ next_number shift (
-    sign (codes ")") ∷ next_number width (closed rest))
+    ∷ name (shift_word row.own.mode) ∷ sign (codes "(") ∷ accumulator_name ∷ next_number row.own.shift (
+    sign (codes ")") ∷ next_number row.width (closed rest))
 
 -- row i: its constant, its terms and its store
 pub record SpellsRow (i : ℕ) (row : Row) (tokens rest : List Lexeme) : Type 0 where
   pub terms : List Lexeme
-  pub constant : tokens ≡ constant_tokens (half_place row.shift) terms
-  pub each : SpellsTerms row.terms terms (store_tokens i row.shift row.width rest)
+  pub constant : tokens ≡ constant_tokens (constant_of row.own) terms
+  pub each : SpellsTerms row.own.terms terms (store_tokens i row rest)
 
 -- the rows from row i on
 abbrev pub SpellsRows : ℕ → List Row → List Lexeme → List Lexeme → Type 0

@@ -9,7 +9,9 @@ use Rattle.fx_math.specs.Words.{is_accumulator}
 use Rattle.fx_math.specs.declared.words.TheConstants.{GREATEST_WIDTH, LEAST_WIDTH}
 use Rattle.fx_eqs.specs.declared.limits.TheConstants.{PORTS}
 use Rattle.fx_code.specs.declared.limits.TheConstants.{CODE_ROWS, COEFFICIENT_BITS, LONGEST_SHIFT}
-use Rattle.fx_code.specs.Code.{Row, Code, half_place}
+use Rattle.fx_eqs.specs.declared.mode.Mode.{Mode}
+use Rattle.fx_eqs.specs.declared.mode.Mode.TheVariants.{Nearest, Floor}
+use Rattle.fx_code.specs.Code.{Row, Code, constant_in}
 use Rattle.fx_code.specs.Limits.{same_source, start_fault, row_fault, output_fault}
 use Rattle.fx_code.specs.declared.term.CodeTerm.{CodeTerm}
 use Rattle.fx_code.specs.declared.term.Read.{Read}
@@ -23,7 +25,9 @@ use Rattle.fx_text.specs.declared.fault.CodeFault.TheVariants.{Unexpected, Name,
 use Rattle.fx_text.specs.declared.fault.CodeFault.TheVariants.{NoMemory}
 use Rattle.fx_text.specs.declared.parts.Head.{Head}
 use Rattle.fx_text.specs.declared.term.Place.{Place}
+use Rattle.fx_text.specs.declared.term.Store.{Store}
 use Rattle.fx_nums.specs.Signs.{signed}
+use Rattle.fx_text.specs.Grammar.{shift_word}
 use Rattle.fx_text.specs.Tokens.{begins, input_letter, is_letter, old_letter, row_letter}
 use Rattle.fx_math.specs.Faults.{or_fault}
 use Rattle.fx_math.specs.Faults.{◌>>=◌}
@@ -155,22 +159,37 @@ constant_at text at = do
   b ← expect_at (codes ";") text n.1
   Ok (n.0, b)
 
--- `= LOW ( SAR ( a ,`, before the comma
-unfoldable pub store_begins_at : List ℕ → ℕ → Result ℕ CodeFault
+-- the mode that `SAR` or `FLR` stands for
+unfoldable pub mode_at : List ℕ → ℕ → Result (Mode × ℕ) CodeFault
+mode_at text at = do
+  t ← token_at text at
+  if bytes_eq t.1 (shift_word Nearest)
+      then Ok (Nearest, t.2)
+      else (if bytes_eq t.1 (shift_word Floor) then Ok (Floor, t.2) else Err (Unexpected t.0))
+
+-- `= LOW ( SAR ( a` or `= LOW ( FLR ( a`
+unfoldable pub store_begins_at : List ℕ → ℕ → Result (Mode × ℕ) CodeFault
 store_begins_at text at = do
   a ← pair_at (codes "=") (codes "LOW") text at
-  b ← pair_at (codes "(") (codes "SAR") text a
-  pair_at (codes "(") (codes "a") text b
+  b ← expect_at (codes "(") text a
+  mode ← mode_at text b
+  c ← pair_at (codes "(") (codes "a") text mode.1
+  Ok (mode.0, c)
 
--- `= LOW ( SAR ( a , shift ) , width ) ;`
-unfoldable pub store_at : ℕ → List ℕ → ℕ → Result (ℕ × ℕ × ℕ) CodeFault
+-- `= LOW ( SAR ( a , shift ) , width ) ;`, or with `FLR`
+unfoldable pub store_at : ℕ → List ℕ → ℕ → Result (Store × ℕ) CodeFault
 store_at accumulator text at = do
-  a ← store_begins_at text at
-  shift ← next_at Shift 0 (min LONGEST_SHIFT (accumulator - 1)) text a
+  mode ← store_begins_at text at
+  shift ← next_at Shift 0 (min LONGEST_SHIFT (accumulator - 1)) text mode.1
   b ← expect_at (codes ")") text shift.1
   width ← next_at Width LEAST_WIDTH (min GREATEST_WIDTH accumulator) text b
   d ← pair_at (codes ")") (codes ";") text width.1
-  Ok (shift.0, width.0, d)
+  Ok (record { mode = mode.0; shift = shift.0; width = width.0 }, d)
+
+-- a row of these terms with this store
+abbrev pub stored_row : List CodeTerm → Store → Row
+stored_row terms store =
+    record { width = store.width; own = record { shift = store.shift; mode = store.mode; terms = terms } }
 
 -- a program's fault, as the text's
 abbrev pub fault_of : ProgramFault → CodeFault
@@ -199,10 +218,9 @@ with_output p row = unless_fault (output_fault p row) (record p { outputs = p.ou
 abbrev pub place_of : ℕ → Code → Place
 place_of rows p = record { row = length p.rows; rows = rows; inputs = length p.inputs }
 
--- what a row's constant must be
+-- a row's constant is the one that its store demands
 abbrev pub checked_constant : ℕ → ℕ → ℕ → Result (Unit {0}) CodeFault
-checked_constant row got shift =
-    if got == half_place shift then Ok tt else Err (Rounding row (pos got) (pos (half_place shift)))
+checked_constant row got wanted = if got == wanted then Ok tt else Err (Rounding row (pos got) (pos wanted))
 
 -- one more row, of so many in all
 unfoldable pub row_more : ℕ → List ℕ → Code × ℕ → Result (Code × ℕ) CodeFault
@@ -210,9 +228,9 @@ row_more rows text s = do
   constant ← constant_at text s.1
   terms ← terms_at (place_of rows s.0) [] text constant.1
   store ← store_at s.0.accumulator text terms.1
-  p ← with_row s.0 (record { width = store.1; shift = store.0; terms = terms.0 })
-  fits ← checked_constant (length s.0.rows) constant.0 store.0
-  Ok (p, store.2)
+  p ← with_row s.0 (stored_row terms.0 store.0)
+  fits ← checked_constant (length s.0.rows) constant.0 (constant_in store.0.mode store.0.shift)
+  Ok (p, store.1)
 
 -- ---- the outputs and the words that are kept
 

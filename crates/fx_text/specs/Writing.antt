@@ -1,11 +1,11 @@
 -- The text that is written for a program: one statement a line.
 use Rattle.std.specs.Prelude.{ℕ, zero, suc, ◌+◌, List, [], ◌∷◌, ◌++◌, length, codes}
 use Rattle.std.specs.Fmt.{decimal, signed_decimal}
-use Rattle.fx_code.specs.Code.{Row, Code, half_place}
+use Rattle.fx_code.specs.Code.{Row, Code, constant_of}
 use Rattle.fx_code.specs.declared.term.CodeTerm.{CodeTerm}
 use Rattle.fx_code.specs.declared.term.Read.{Read}
 use Rattle.fx_code.specs.declared.term.Read.TheVariants.{Now, Old, In}
-use Rattle.fx_text.specs.Grammar.{first_line}
+use Rattle.fx_text.specs.Grammar.{first_line, shift_word}
 
 abbrev pub head_line : Code → List ℕ
 head_line p =
@@ -37,15 +37,15 @@ abbrev pub term_lines : List CodeTerm → List ℕ
 term_lines [] = []
 term_lines (t ∷ ts) = term_line t ++ term_lines ts
 
-abbrev pub store_line : ℕ → ℕ → ℕ → List ℕ
-store_line i shift width =
-    codes "  r" ++ (decimal i ++ (codes " = LOW(SAR(a, " ++ (decimal shift ++ (codes "), "
-    ++ (decimal width ++ codes ");\n")))))
+abbrev pub store_line : ℕ → Row → List ℕ
+store_line i row =
+    codes "  r" ++ (decimal i ++ (codes " = LOW(" ++ (shift_word row.own.mode ++ (codes "(a, "
+    ++ (decimal row.own.shift ++ (codes "), " ++ (decimal row.width ++ codes ");\n")))))))
 
 -- the lines of row i
 abbrev pub row_lines : ℕ → Row → List ℕ
 row_lines i row =
-    constant_line (half_place row.shift) ++ (term_lines row.terms ++ store_line i row.shift row.width)
+    constant_line (constant_of row.own) ++ (term_lines row.own.terms ++ store_line i row)
 
 -- those of the rows from row i on
 abbrev pub rows_lines : ℕ → List Row → List ℕ

@@ -6,7 +6,7 @@ use fx_code::{LimitOf, ProgramFault};
 use std::alloc::{AllocError, AllocFailed};
 
 /// Why a text is no program. Offsets count bytes from 0, and rows are numbered from 0.
-#[derive(Clone, Copy, Debug, PartialEq, Eq)]
+#[derive(Clone, Copy)]
 pub enum CodeFault {
     /// The byte at this offset begins no token.
     Token(usize),
@@ -18,7 +18,7 @@ pub enum CodeFault {
     Order(u8),
     /// The number at this offset has a zero before other digits, or is 2^63 or more.
     Number(usize),
-    /// The constant of the row of this number, and the one that its shift demands.
+    /// The constant of the row of this number, and the one that its shift and its mode demand.
     Rounding(u8, i64, i64),
     /// The number is out of its range.
     Limit(LimitOf, i128),

@@ -5,8 +5,6 @@ mod fault;
 mod parts;
 mod reader;
 mod term;
-#[cfg(test)]
-mod tests;
 mod token;
 mod writer;
 

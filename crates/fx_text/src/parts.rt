@@ -15,7 +15,7 @@ use fx_eqs::PORTS;
 use fx_math::{ACCUMULATORS, GREATEST_WIDTH, LEAST_WIDTH};
 
 /// What the head of a text says.
-#[derive(Clone, Copy, Debug, PartialEq, Eq)]
+#[derive(Clone, Copy)]
 pub struct Head {
     /// Bits of the accumulators, one of `ACCUMULATORS`.
     pub accumulator: u8,

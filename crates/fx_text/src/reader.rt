@@ -8,6 +8,7 @@ ghost use Rattle.fx_text.specs.Reading.{
   inputs_at,
   input_more,
   started,
+  stored_row,
   with_row,
   with_output,
   row_more,
@@ -20,7 +21,7 @@ ghost use Rattle.fx_text.specs.Laws.{CodeLaw, OneProgram, TermsLaw};
 
 use crate::fault::CodeFault;
 use crate::parts::{Head, end_at, head_at, input_at, output_at};
-use crate::term::{Place, checked_constant, constant_at, store_at, terms_at};
+use crate::term::{Place, Store, checked_constant, constant_at, store_at, terms_at};
 use crate::token::{due_at, expect_at, first_line_at};
 use fx_code::{CODE_ROWS, CodeTerm, Program};
 use std::alloc::Global;
@@ -67,17 +68,11 @@ fn started(alloc: Global, accumulator: u8, widths: &[u8]) -> Result<Program, Cod
     Ok(program)
 }
 
-// Adds a row.
-fn with_row(
-    program: &mut Program,
-    width: u8,
-    shift: u8,
-    terms: &[CodeTerm],
-) -> Result<(), CodeFault>
-    ensures { Gives is_memory (λ _. program.new) result
-        (with_row program.old (record { width = width; shift = shift; terms = terms.now })) }
+// Adds a row of these terms with this store.
+fn with_row(program: &mut Program, terms: &[CodeTerm], store: &Store) -> Result<(), CodeFault>
+    ensures { Gives is_memory (λ _. program.new) result (with_row program.old (stored_row terms.now store.now)) }
 {
-    program.add_row(width, shift, terms)?;
+    program.add_row(store.width, store.shift, store.mode, terms)?;
     Ok(())
 }
 
@@ -109,9 +104,9 @@ fn row_more(
     };
     let (constant, at) = constant_at(text, at)?;
     let (terms, at) = terms_at(alloc, text, at, &place)?;
-    let (shift, width, at) = store_at(text, at, program.accumulator())?;
-    with_row(program, width, shift, &terms)?;
-    checked_constant(place.row, constant, shift)?;
+    let (store, at) = store_at(text, at, program.accumulator())?;
+    with_row(program, &terms, &store)?;
+    checked_constant(place.row, constant, &store)?;
     Ok(at)
 }
 

@@ -1,7 +1,7 @@
 //! The parts of a row.
 
 ghost use Rattle.std.specs.Prelude.{◌≡◌, ◌≤◌, ◌<◌, ◌^◌, [], length, pos, IfOk, None};
-ghost use Rattle.fx_code.specs.Code.{half_place};
+ghost use Rattle.fx_code.specs.Code.{constant_in};
 ghost use Rattle.fx_math.specs.Answers.{Gives};
 ghost use Rattle.fx_text.specs.TokenReading.{is_memory};
 ghost use Rattle.fx_text.specs.Reading.{
@@ -15,6 +15,7 @@ ghost use Rattle.fx_text.specs.Reading.{
   statement_at,
   terms_at,
   constant_at,
+  mode_at,
   store_begins_at,
   store_at,
   checked_constant,
@@ -24,17 +25,31 @@ use crate::fault::CodeFault;
 use crate::token::{
     begins_with_letter, due_at, expect_at, name_number, next_at, number_at, pair_at, token_at,
 };
-use fx_code::{COEFFICIENT_BITS, CodeTerm, LONGEST_SHIFT, LimitOf, Read, reads_source};
+use fx_code::{
+    COEFFICIENT_BITS, CodeTerm, LONGEST_SHIFT, LimitOf, Read, constant_in, reads_source,
+};
+use fx_eqs::Mode;
 use fx_math::{GREATEST_WIDTH, LEAST_WIDTH};
 use fx_nums::signed;
 use std::alloc::Global;
 
 /// Where a row stands: its number, the count of rows and the count of inputs.
-#[derive(Clone, Copy, Debug, PartialEq, Eq)]
+#[derive(Clone, Copy)]
 pub struct Place {
     pub row: u8,
     pub rows: u8,
     pub inputs: u8,
+}
+
+/// What the store of a row says.
+#[derive(Clone, Copy)]
+pub struct Store {
+    /// How the right shift drops low places.
+    pub mode: Mode,
+    /// The right shift: at most `LONGEST_SHIFT`, and below the bits of the accumulators.
+    pub shift: u8,
+    /// The bits of the row's word.
+    pub width: u8,
 }
 
 // Whether a `-` is next, and the place where its number is.
@@ -211,58 +226,66 @@ pub fn constant_at(text: &[u8], at: usize) -> Result<(u64, usize), CodeFault>
     Ok((number, at))
 }
 
-// `= LOW ( SAR ( a`, and the place after it.
-#[tactic(auto, unfolding(crate::specs::Reading::store_begins_at))]
-fn store_begins_at(text: &[u8], at: usize) -> Result<usize, CodeFault>
+// The mode that `SAR` or `FLR` stands for, and the place after it.
+#[tactic(auto, unfolding(crate::specs::Reading::mode_at))]
+fn mode_at(text: &[u8], at: usize) -> Result<(Mode, usize), CodeFault>
     requires { at ≤ length text.now }
-    ensures gives { Gives is_memory (λ n. n) result (store_begins_at text.now at) }
-    ensures within { IfOk result (λ n. n ≤ length text.now) }
+    ensures gives { Gives is_memory (λ m. m) result (mode_at text.now at) }
+    ensures within { IfOk result (λ m. m.1 ≤ length text.now) }
 {
-    let at = pair_at(text, at, b"=", b"LOW")?;
-    let at = pair_at(text, at, b"(", b"SAR")?;
-    pair_at(text, at, b"(", b"a")
+    let (start, word, end) = token_at(text, at)?;
+    if word == b"SAR".as_slice() {
+        Ok((Mode::Nearest, end))
+    } else if word == b"FLR".as_slice() {
+        Ok((Mode::Floor, end))
+    } else {
+        Err(CodeFault::Unexpected(start))
+    }
 }
 
-// The shift and the width of `= LOW ( SAR ( a , shift ) , width ) ;`, and the place after it.
+// The mode of `= LOW ( SAR ( a` or `= LOW ( FLR ( a`, and the place after it.
+#[tactic(auto, unfolding(crate::specs::Reading::store_begins_at))]
+fn store_begins_at(text: &[u8], at: usize) -> Result<(Mode, usize), CodeFault>
+    requires { at ≤ length text.now }
+    ensures gives { Gives is_memory (λ m. m) result (store_begins_at text.now at) }
+    ensures within { IfOk result (λ m. m.1 ≤ length text.now) }
+{
+    let at = pair_at(text, at, b"=", b"LOW")?;
+    let at = expect_at(text, at, b"(")?;
+    let (mode, at) = mode_at(text, at)?;
+    let at = pair_at(text, at, b"(", b"a")?;
+    Ok((mode, at))
+}
+
+// What `= LOW ( SAR ( a , shift ) , width ) ;` says, or one with `FLR`, and the place after it.
 #[tactic(auto, unfolding(crate::specs::Reading::store_at))]
-pub fn store_at(text: &[u8], at: usize, accumulator: u8) -> Result<(u8, u8, usize), CodeFault>
+pub fn store_at(text: &[u8], at: usize, accumulator: u8) -> Result<(Store, usize), CodeFault>
     requires place { at ≤ length text.now }
     requires bits { 16 ≤ accumulator }
     ensures gives { Gives is_memory (λ s. s) result (store_at accumulator text.now at) }
-    ensures within { IfOk result (λ s. (s.0 ≤ LONGEST_SHIFT) × (s.2 ≤ length text.now)) }
+    ensures within { IfOk result (λ s. (s.0.shift ≤ LONGEST_SHIFT) × (s.1 ≤ length text.now)) }
 {
-    let at = store_begins_at(text, at)?;
+    let (mode, at) = store_begins_at(text, at)?;
     let longest = LONGEST_SHIFT.min(accumulator - 1);
     let (shift, at) = next_at(text, at, LimitOf::Shift, 0, longest)?;
     let at = expect_at(text, at, b")")?;
     let widest = GREATEST_WIDTH.min(accumulator);
     let (width, at) = next_at(text, at, LimitOf::Width, LEAST_WIDTH, widest)?;
     let at = pair_at(text, at, b")", b";")?;
-    Ok((shift, width, at))
+    Ok((Store { mode, shift, width }, at))
 }
 
-// Half of the last place that a right shift drops.
-fn half_place(shift: u8) -> u64
-    requires { shift ≤ LONGEST_SHIFT }
-    ensures value { result ≡ half_place shift }
-    ensures small { result < 2 ^ 63 }
-{
-    match shift {
-        0 => 0,
-        shift => 1 << (shift - 1),
-    }
-}
-
-// A row's constant is the one that its shift demands.
-pub fn checked_constant(row: u8, got: u64, shift: u8) -> Result<(), CodeFault>
+// A row's constant is the one that its store demands.
+pub fn checked_constant(row: u8, got: u64, store: &Store) -> Result<(), CodeFault>
     requires number { got < 2 ^ 63 }
-    requires shift { shift ≤ LONGEST_SHIFT }
-    ensures { Gives is_memory (λ _. tt) result (checked_constant row got shift) }
+    requires shift { store.now.shift ≤ LONGEST_SHIFT }
+    ensures { Gives is_memory (λ _. tt) result
+        (checked_constant row got (constant_in store.now.mode store.now.shift)) }
 {
-    let wanted = half_place(shift);
-    if got == wanted {
+    let wanted = constant_in(store.mode, store.shift);
+    if got == wanted as u64 {
         Ok(())
     } else {
-        Err(CodeFault::Rounding(row, got as i64, wanted as i64))
+        Err(CodeFault::Rounding(row, got as i64, wanted))
     }
 }

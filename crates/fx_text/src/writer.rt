@@ -2,9 +2,9 @@
 
 ghost use Rattle.std.specs.Prelude.{◌≡◌, ◌≤◌, ◌<◌, ◌++◌, length, slice_index, IfOk, OnOk};
 ghost use Rattle.std.specs.String.{string_bytes};
-ghost use Rattle.fx_code.specs.Code.{IsWhole, row_at, half_place};
+ghost use Rattle.fx_code.specs.Code.{IsWhole, row_at, constant_of};
 ghost use Rattle.fx_text.specs.Reading.{code_in};
-ghost use Rattle.fx_text.specs.Grammar.{Spells, first_line};
+ghost use Rattle.fx_text.specs.Grammar.{Spells, first_line, shift_word};
 ghost use Rattle.fx_text.specs.Writing.{
   code_text,
   head_line,
@@ -25,6 +25,7 @@ ghost use Rattle.fx_text.specs.Writing.{
 
 use crate::token::FIRST_LINE;
 use fx_code::{CodeTerm, Program, Read, programs_fit};
+use fx_eqs::Mode;
 use std::alloc::{AllocError, Global};
 
 fn head_line(alloc: Global, program: &Program) -> Result<String, AllocError>
@@ -68,10 +69,25 @@ fn term_line(alloc: Global, term: &CodeTerm) -> Result<String, AllocError>
     format!(in alloc; "  a += MUL({coef}, {source}, {left});\n")
 }
 
-fn store_line(alloc: Global, row: usize, shift: u8, width: u8) -> Result<String, AllocError>
-    ensures { IfOk result (λ s. string_bytes s ≡ store_line row shift width) }
+// What the right shift of a row with this mode is written with.
+fn shift_word(mode: Mode) -> &'static str
+    ensures { result.now ≡ shift_word mode }
 {
-    format!(in alloc; "  r{row} = LOW(SAR(a, {shift}), {width});\n")
+    match mode {
+        Mode::Nearest => "SAR",
+        Mode::Floor => "FLR",
+    }
+}
+
+fn store_line(alloc: Global, program: &Program, row: usize) -> Result<String, AllocError>
+    requires { row < length program.now.rows }
+    ensures { IfOk result (λ s. string_bytes s ≡ store_line row (row_at program.now row)) }
+{
+    let mode = program.mode(row);
+    let word = shift_word(mode);
+    let shift = program.shift(row);
+    let width = program.width(row);
+    format!(in alloc; "  r{row} = LOW({word}(a, {shift}), {width});\n")
 }
 
 fn output_line(alloc: Global, j: usize, row: u8) -> Result<String, AllocError>
@@ -115,7 +131,7 @@ fn put_terms(alloc: Global, out: &mut Vec<u8>, terms: &[CodeTerm]) -> Result<(),
 // What a row's accumulator begins with, as a magnitude.
 fn constant(program: &Program, row: usize) -> u64
     requires { row < length program.now.rows }
-    ensures { result ≡ half_place (row_at program.now row).shift }
+    ensures { result ≡ constant_of (row_at program.now row).own }
 {
     program.constant(row) as u64
 }
@@ -132,7 +148,7 @@ fn put_row(
     let line = constant_line(alloc, constant(program, row))?;
     put(out, &line)?;
     put_terms(alloc, out, program.terms(row))?;
-    let line = store_line(alloc, row, program.shift(row), program.width(row))?;
+    let line = store_line(alloc, program, row)?;
     put(out, &line)?;
     Ok(())
 }

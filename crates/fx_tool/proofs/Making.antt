@@ -14,7 +14,7 @@ use Rattle.fx_math.specs.declared.words.TheConstants.{LEAST_WIDTH}
 use Rattle.fx_msb.specs.Widths.{IsBound, IsLeastWidth}
 use Rattle.fx_files.specs.Filter.{Filter}
 use Rattle.fx_keys.specs.declared.fault.FilterFault.{FilterFault}
-use Rattle.fx_code.specs.Code.{BareRow, Code, Row, bare, row_at}
+use Rattle.fx_code.specs.Code.{BareRow, Code, Row, bare, no_row, row_at}
 use Rattle.fx_code.specs.Fits.{CodeFits, RowFits}
 use Rattle.fx_code.specs.NetRows.{bare_at}
 use Rattle.fx_cert.specs.Certificate.{Certificate, CertificateFits}
@@ -75,7 +75,7 @@ width_is : (f : Filter) (p : Passing) (q : Code) (i : ℕ) → CodeFits q → Is
     length f.outputs ≤ length p.design.rows → (row_at q i).width ≡ made_width f p i
 width_is f p q i fits is l count out = elim (cases_lt i (inner_count f p.design.rows)) [
   | inl inner ↦ (
-      let fit = All-get_or (RowFits q.accumulator) q.rows i (record { width = 0; shift = 0; terms = [] })
+      let fit = All-get_or (RowFits q.accumulator) q.rows i no_row
       (omega (arith, l, count)) fits.rows in
       least_is (p.bounds i) (row_at q i).width (is.inner_widths i inner) (omega (arith, fit.width.high))
       ∙ sym (cond-true _ _ _ (lt-ltb i (inner_count f p.design.rows) inner)))
@@ -118,7 +118,7 @@ program_is f p q fits is =
     let count : length q.rows ≡ length p.design.rows =
     sym (length-map q.rows bare) ∙ ap (λ (rows : List BareRow). length rows) is.rows_are in
     let out = few_outputs f p q fits is count in
-    let rows = is_listed (record { width = 0; shift = 0; terms = [] }) q.rows (length p.design.rows)
+    let rows = is_listed no_row q.rows (length p.design.rows)
     (λ i. sized (made_width f p i) (bare_at p.design.rows i)) count (λ i l. row_is f p q i fits is l count out) in
     ap₂ (λ (a : ℕ) (xs : List ℕ). record { accumulator = a; inputs = xs; rows = q.rows; outputs = q.outputs })
     is.accumulator inputs

@@ -6,5 +6,5 @@ use Rattle.fx_quant.proofs.form.design_rows.Given as goal
 
 abbrev pub invariant-loop-i : goal.invariant-loop-i
 invariant-loop-i l =
-    first_rows (λ i. quantised_row l.accumulator i
+    first_rows (λ i. quantised_row l.formats i
     (kept_terms (grid_of l.places) (net_of l.net) l.rows l.inputs i)) l.i ≡ Ok (rows_of l.list)

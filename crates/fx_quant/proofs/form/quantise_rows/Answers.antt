@@ -12,7 +12,7 @@ pub returns-clause-sizes : goal.returns-clause-sizes
 returns-clause-sizes c = record {
   accumulator = refl;
   inputs = ap (λ (s : Sizes). s.u) c.sizes-sizes.ensures.value;
-  rows = rows_count c.args.formats.accumulator (grid_of c.in_ok-places.places) (net_of c.put_net.new.net) c.rows.result
+  rows = rows_count c.args.formats (grid_of c.in_ok-places.places) (net_of c.put_net.new.net) c.rows.result
       c.from-inputs.result (rows_of c.in_ok-rows.rows) c.in_ok-rows.ensures ∙ c.rows.ensures.value;
 }
 
