@@ -8,8 +8,6 @@ mod limits;
 mod lines;
 mod numbers;
 mod reader;
-#[cfg(test)]
-mod tests;
 mod writer;
 
 pub use cert::{Cert, certificates_fit};

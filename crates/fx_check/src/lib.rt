@@ -9,8 +9,6 @@ mod refusal;
 mod report;
 mod sizes;
 mod targets;
-#[cfg(test)]
-mod tests;
 mod verdict;
 
 pub use judging::Judge;

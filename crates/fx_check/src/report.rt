@@ -3,7 +3,7 @@ use fx_eqs::PORTS;
 use fx_error::Parts;
 
 /// A verdict, and what the errors of the outputs are made of.
-#[derive(Clone, Copy, Debug, PartialEq, Eq)]
+#[derive(Clone, Copy)]
 pub struct Report {
     /// The verdict.
     pub verdict: Verdict,

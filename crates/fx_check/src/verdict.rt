@@ -5,7 +5,7 @@ use crate::refusal::Refusal;
 use fx_block::Inequality;
 
 /// What a filter, a program and a certificate are found to be.
-#[derive(Clone, Copy, Debug, PartialEq, Eq)]
+#[derive(Clone, Copy)]
 pub enum Verdict {
     /// All inequalities hold: the program is sound for the filter, with the certificate's errors.
     Accepted,

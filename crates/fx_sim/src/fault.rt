@@ -7,7 +7,7 @@ use std::alloc::{AllocError, AllocFailed};
 use thiserror::Error;
 
 /// Why samples are refused. Records and columns count from 1.
-#[derive(Clone, Copy, Debug, PartialEq, Eq, Error)]
+#[derive(Clone, Copy, Debug, Error)]
 pub enum SampleFault {
     /// A record, the count of its fields, and the count of the program's inputs, which it is not.
     #[error("record {0} has {1} fields in place of {2}")]

@@ -8,8 +8,6 @@ mod moment;
 mod plain;
 mod record;
 mod simulation;
-#[cfg(test)]
-mod tests;
 mod text;
 
 pub use fault::SampleFault;

@@ -8,6 +8,5 @@ pub mod JobRuns
 pub mod Making
 pub mod Placed
 pub mod ReadSoFar
-pub mod TestWords
 pub mod TwoPlaced
 pub mod WrittenSoFar

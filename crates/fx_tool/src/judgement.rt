@@ -18,7 +18,7 @@ use fx_lines::{accepted_lines, refused_line, report_lines};
 use std::alloc::{AllocError, Global};
 
 /// How much is told of a judgement.
-#[derive(Clone, Copy, Debug, PartialEq, Eq)]
+#[derive(Clone, Copy)]
 pub enum Detail {
     /// The verdict.
     Brief,

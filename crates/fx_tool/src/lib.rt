@@ -30,6 +30,3 @@ pub fn limits_are_these()
     ensures samples { LONGEST_SAMPLES ≡ 16777216 }
     ensures piece { PIECE ≡ 65536 }
 {}
-
-#[cfg(test)]
-mod tests;

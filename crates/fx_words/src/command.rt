@@ -23,7 +23,7 @@ use crate::number::is_one_number;
 use crate::operand::Operand;
 
 /// A command.
-#[derive(Clone, Copy, Debug, PartialEq, Eq)]
+#[derive(Clone, Copy)]
 pub enum Verb {
     /// Judges a filter, a program and a certificate.
     Check,

@@ -10,6 +10,3 @@ pub use command::{Command, VERBS, Verb, plain_command};
 pub use number::{given_number, number_of};
 pub use operand::{LONGEST_FILE, LONGEST_SAMPLES, Operand};
 pub use reading::{Asked, ReadCommand, read_words, words_are_a_command};
-
-#[cfg(test)]
-mod tests;

@@ -9,7 +9,7 @@ pub const LONGEST_FILE: usize = 1_048_576;
 pub const LONGEST_SAMPLES: usize = 16_777_216;
 
 /// A file that a command reads.
-#[derive(Clone, Copy, Debug, PartialEq, Eq)]
+#[derive(Clone, Copy)]
 pub enum Operand {
     /// A filter.
     Filter,
