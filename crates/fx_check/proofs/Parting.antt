@@ -1,12 +1,11 @@
 -- The parts of a total in the padded net are those in the net of a program and a filter.
 use Rattle.std.proofs.Common.{◌≡◌, ◌⊎◌, ℕ, ◌<◌, ◌≤◌, List, length, get_or, arith, ap, ap₂, sym, ◌∙◌, inl, inr}
-use Rattle.std.proofs.Math.IntN.{ℤ, ◌+ℤ◌}
+use Rattle.std.proofs.Math.IntN.{◌+ℤ◌}
 use Rattle.std.proofs.lemmas.Bool.{cases_lt, cond-true, cond-false, lt-ltb, le-ltb}
 use Rattle.std.proofs.lemmas.List.{get_or_default, same_lists}
 use Rattle.fx_eqs.specs.declared.limits.TheConstants.{PORTS}
 use Rattle.fx_nums.specs.Interval.{Interval}
 use Rattle.fx_net.specs.Net.{Net}
-use Rattle.fx_sweep.specs.Gains.{rest}
 use Rattle.fx_totals.specs.Padding.{HasSameNumbers}
 use Rattle.fx_totals.specs.Totals.{input_part, rest_part, rounding, width_part}
 use Rattle.fx_files.specs.Filter.{Filter}
