@@ -43,6 +43,7 @@ filter_of b a bound accumulator low error = record {
   coefficients = Tf b a;
   settings = record {
     structure = Df1;
+    rounding = Nearest;
     accumulator = accumulator;
     word = 32;
     guards = [];
