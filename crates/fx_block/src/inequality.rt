@@ -3,7 +3,7 @@ use fx_sweep::Place;
 /// The inequalities that a certificate has to meet, in their order; rows, inputs, outputs and targets are numbered from
 /// 0. The rows of the program come first, then the expanded rows of the filter; targets are the rows, then a pair for
 /// each output.
-#[derive(Clone, Copy, Debug, PartialEq, Eq)]
+#[derive(Clone, Copy)]
 pub enum Inequality {
     /// The program has as many inputs as the filter.
     Inputs,

@@ -52,7 +52,7 @@ use fx_totals::{TargetRange, Totals, totals_fit, totals_grow};
 pub const MOST_RAISES: u32 = 64;
 
 /// How raises of all bounds from 0 end. Bounds are words; rows are numbered from 0.
-#[derive(Clone, Copy, Debug, PartialEq, Eq)]
+#[derive(Clone, Copy, PartialEq, Eq)]
 pub enum Least {
     /// A raise changed nothing: the bounds are the least that serve.
     Rest,
@@ -77,7 +77,7 @@ pub enum Least {
 }
 
 /// Why a length does not do.
-#[derive(Clone, Copy, Debug, PartialEq, Eq)]
+#[derive(Clone, Copy)]
 pub enum LengthWhy {
     /// A target meets a range within the length.
     Range(TargetRange),

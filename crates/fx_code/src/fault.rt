@@ -1,5 +1,5 @@
 /// Which limit a number passes.
-#[derive(Clone, Copy, Debug, PartialEq, Eq)]
+#[derive(Clone, Copy)]
 pub enum LimitOf {
     /// Bits of the accumulators: 16, 32 or 64.
     Accumulator,
