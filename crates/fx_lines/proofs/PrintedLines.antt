@@ -23,29 +23,7 @@ use Rattle.fx_lines.proofs.PrintedParts.{line_of, more}
 
 name_printed : (k : Key) → Printed (name_of k)
 name_printed key.Form = refl
-name_printed key.InputLow = refl
-name_printed key.Inputs = refl
-name_printed key.InputsWidth = refl
-name_printed key.InputsBound = refl
-name_printed key.Outputs = refl
-name_printed key.OutputsWidth = refl
-name_printed key.OutputsLow = refl
-name_printed key.OutputsError = refl
-name_printed key.B = refl
-name_printed key.A = refl
-name_printed key.Sections = refl
-name_printed key.MatA = refl
-name_printed key.MatB = refl
-name_printed key.MatC = refl
-name_printed key.MatD = refl
-name_printed key.K = refl
-name_printed key.V = refl
-name_printed key.Structure = refl
-name_printed key.Accumulator = refl
-name_printed key.Word = refl
-name_printed key.Guards = refl
-name_printed key.Fractions = refl
-name_printed key.Lengths = refl
+name_printed _ = refl
 
 control_low : (c : ℕ) → is_control c ≡ true → c ≤ 127
 control_low c control = grind (arith, nat_tests)

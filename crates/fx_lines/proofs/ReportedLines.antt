@@ -27,11 +27,11 @@ row_is_line p c i =
     let named = codes "row " ++ decimal i in
     let wide = named ++ codes " width " ++ decimal (row_at p i).width in
     let bound = wide ++ codes " bound " ++ decimal (bound_at c i) in
-    let shifted = bound ++ codes " shift " ++ decimal (row_at p i).shift in
+    let shifted = bound ++ codes " shift " ++ decimal (row_at p i).own.shift in
     let spared = shifted ++ codes " spare " in
     let a = behind named (codes " width ") (row_at p i).width (numbered (codes "row ") i refl) refl in
     let b = behind wide (codes " bound ") (bound_at c i) a refl in
-    let d = behind bound (codes " shift ") (row_at p i).shift b refl in
+    let d = behind bound (codes " shift ") (row_at p i).own.shift b refl in
     line_of (spared ++ signed_decimal (spare p c i))
     (both_printed spared (signed_decimal (spare p c i)) (both_printed shifted (codes " spare ") d refl)
     (signed_printed (spare p c i)))

@@ -3,6 +3,8 @@ use Rattle.std.specs.Prelude.{ℕ, zero, suc, ◌+◌, ◌==◌, ℤ, List, [], 
 use Rattle.std.specs.Fmt.{decimal, signed_decimal}
 use Rattle.std.specs.List.{join_by}
 use Rattle.fx_decimal.specs.Printed.{fraction_text}
+use Rattle.fx_eqs.specs.declared.mode.Mode.{Mode}
+use Rattle.fx_eqs.specs.declared.mode.Mode.TheVariants.{Nearest, Floor}
 use Rattle.fx_eqs.specs.declared.term.Source.{Source}
 use Rattle.fx_eqs.specs.declared.term.Source.TheVariants.{Row, In}
 use Rattle.fx_eqs.specs.declared.term.Term.{Term}
@@ -14,11 +16,16 @@ use Rattle.fx_files.specs.declared.formats.OutputFormat.{OutputFormat}
 
 -- ---- the whole
 
--- the form, the structure, the bits of an accumulator and the most bits of an inner word
+-- how rows drop their low places, where they do not round to the nearest
+abbrev pub rounding_line : Mode → List ℕ
+rounding_line Nearest = []
+rounding_line Floor = codes "rounding floor\n"
+
+-- the form, the structure, the rounding, the bits of an accumulator and the most bits of an inner word
 abbrev pub head_lines : Filter → List ℕ
 head_lines f =
     codes "form " ++ form_text (form_of f.coefficients) ++ codes "\nstructure " ++ structure_text f.settings.structure
-    ++ codes "\naccumulator " ++ decimal f.settings.accumulator
+    ++ codes "\n" ++ rounding_line f.settings.rounding ++ codes "accumulator " ++ decimal f.settings.accumulator
     ++ codes "\nword " ++ decimal f.settings.word ++ codes "\n"
 
 -- ---- inputs and outputs

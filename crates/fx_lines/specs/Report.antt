@@ -22,7 +22,7 @@ spare p c i = pos (2 ^ ((row_at p i).width - 1) - 1) -ℤ pos (bound_at c i)
 abbrev pub row_line : Code → Certificate → ℕ → List ℕ
 row_line p c i =
     codes "row " ++ decimal i ++ codes " width " ++ decimal (row_at p i).width ++ codes " bound "
-    ++ decimal (bound_at c i) ++ codes " shift " ++ decimal (row_at p i).shift ++ codes " spare "
+    ++ decimal (bound_at c i) ++ codes " shift " ++ decimal (row_at p i).own.shift ++ codes " spare "
     ++ signed_decimal (spare p c i) ++ codes "\n"
 
 abbrev pub row_lines : Code → Certificate → List ℕ

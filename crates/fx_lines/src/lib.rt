@@ -10,8 +10,6 @@ mod pieces;
 mod report;
 mod sample_fault;
 mod shown;
-#[cfg(test)]
-mod tests;
 mod unknown_key;
 mod verdict;
 

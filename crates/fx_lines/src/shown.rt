@@ -10,6 +10,7 @@ ghost use Rattle.fx_lines.specs.Filter.{
   input_lines,
   output_line,
   output_lines,
+  rounding_line,
   row_line,
   rows_before,
   source_text,
@@ -20,9 +21,19 @@ ghost use Rattle.fx_lines.specs.Filter.{
 
 use crate::pieces::{put_field, put_word};
 use fx_decimal::print_frac;
-use fx_eqs::{Eqs, Source, Term};
+use fx_eqs::{Eqs, Mode, Source, Term};
 use fx_files::{Filter, InputFormat, OutputFormat};
 use std::alloc::{AllocError, Global};
+
+// A filter whose rows round to the nearest has no such line.
+fn put_rounding(text: &mut Vec<u8>, mode: Mode) -> Result<(), AllocError>
+    ensures { OnOk result (text.new.items ≡ text.old.items ++ rounding_line mode) }
+{
+    match mode {
+        Mode::Nearest => Ok(()),
+        Mode::Floor => put_word(text, "rounding floor\n"),
+    }
+}
 
 fn head_lines(alloc: Global, filter: &Filter) -> Result<Vec<u8>, AllocError>
     ensures { IfOk result (λ t. t.items ≡ head_lines filter.now) }
@@ -31,7 +42,9 @@ fn head_lines(alloc: Global, filter: &Filter) -> Result<Vec<u8>, AllocError>
     put_word(&mut text, filter.form().word())?;
     put_word(&mut text, "\nstructure ")?;
     put_word(&mut text, filter.structure().word())?;
-    put_field(&mut text, "\naccumulator ", filter.accumulator())?;
+    put_word(&mut text, "\n")?;
+    put_rounding(&mut text, filter.mode())?;
+    put_field(&mut text, "accumulator ", filter.accumulator())?;
     put_field(&mut text, "\nword ", filter.word())?;
     put_word(&mut text, "\n")?;
     Ok(text)
@@ -160,8 +173,9 @@ fn put_rows(alloc: Global, text: &mut Vec<u8>, equations: &Eqs) -> Result<(), Al
     Ok(())
 }
 
-/// The lines that show a filter: its form and structure, the bits of accumulators and inner words, its inputs and
-/// outputs, and the rows of its equations. Each line ends with a line feed.
+/// The lines that show a filter: its form and structure, its rounding where that is not to the nearest, the bits of
+/// accumulators and inner words, its inputs and outputs, and the rows of its equations. Each line ends with a line
+/// feed.
 pub fn shown_filter(alloc: Global, filter: &Filter) -> Result<Vec<u8>, AllocError>
     ensures { IfOk result (λ t. t.items ≡ filter_lines filter.now) }
 {
