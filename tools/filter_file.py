@@ -454,6 +454,8 @@ def setting_lines(options: argparse.Namespace, form: str) -> list[str]:
         if options.structure not in STRUCTURES[form]:
             say(f"structure {options.structure} is none of those of form {form}: {', '.join(STRUCTURES[form])}")
         lines.append(f'structure = "{options.structure}"')
+    if options.rounding:
+        lines.append(f'rounding = "{options.rounding}"')
     if options.accumulator:
         lines.append(f"accumulator = {options.accumulator}")
     if options.word is not None:
@@ -556,7 +558,13 @@ def option_parser() -> argparse.ArgumentParser:
     parser = argparse.ArgumentParser(
         prog="filter_file.py", description=__doc__, epilog=HELP, allow_abbrev=False,
         formatter_class=argparse.RawDescriptionHelpFormatter)
-    lists = parser.add_argument_group("coefficients")
+    add_coefficients(parser.add_argument_group("coefficients"))
+    add_words(parser.add_argument_group("words of inputs and outputs; one value for all, or one for each"))
+    add_settings(parser.add_argument_group("for the making of code; what is absent is left to fixif"))
+    return parser
+
+
+def add_coefficients(lists) -> None:
     lists.add_argument("--b", nargs="+", action="append", metavar="B",
                        help=f"numerator of a transfer function, order up to {ORDER}")
     lists.add_argument("--a", nargs="+", action="append", metavar="A",
@@ -574,16 +582,13 @@ def option_parser() -> argparse.ArgumentParser:
                        help="multiply the numerators of sections by powers of two, whose product is 1, so that the "
                        "peak gain up to each section but the last is above 1/2 and at most 1; scipy puts the gain of "
                        "all sections into the first")
-    add_words(parser.add_argument_group("words of inputs and outputs; one value for all, or one for each"))
-    add_settings(parser.add_argument_group("for the making of code; what is absent is left to fixif"))
-    return parser
 
 
-def add_words(group) -> None:
+def add_words(group, needs_error: bool = True) -> None:
     group.add_argument("--width", nargs="+", type=int, default=[16], metavar="BITS", help="of inputs, 2 to 32; else 16")
     group.add_argument("--bound", nargs="+", type=int, metavar="N",
                        help="greatest magnitude of an input word; else 2^(width-1) - 1")
-    group.add_argument("--error", nargs="+", required=True, metavar="DECIMAL",
+    group.add_argument("--error", nargs="+", required=needs_error, metavar="DECIMAL",
                        help="greatest error that is wanted, in output steps")
     group.add_argument("--output-width", nargs="+", type=int, metavar="BITS",
                        help="2 to 32; else the greatest width of an input")
@@ -595,6 +600,7 @@ def add_words(group) -> None:
 def add_settings(group) -> None:
     words = sorted({word for listed in STRUCTURES.values() for word in listed})
     group.add_argument("--structure", choices=words)
+    group.add_argument("--rounding", choices=["nearest", "floor"], help="how a row drops its places; else nearest")
     group.add_argument("--accumulator", type=int, choices=[16, 32, 64], help="bits of the accumulator")
     group.add_argument("--word", type=int, metavar="BITS", help="greatest width of an inner word")
     group.add_argument("--guards", nargs="+", type=int, metavar="BITS", help="guard bits to try, 0 to 16 each")
@@ -603,9 +609,13 @@ def add_settings(group) -> None:
     group.add_argument("--comment", action="append", default=[], metavar="TEXT", help="a line at the top of the file")
 
 
+def shielded(words: list[str]) -> list[str]:
+    """The words with a blank before each negative number, which keeps it from being taken for an option."""
+    return [" " + word if BEGINS_NEGATIVE.match(word) else word for word in words]
+
+
 def options_of(words: list[str]) -> argparse.Namespace:
-    # A blank in front keeps a negative number from being taken for an option.
-    return option_parser().parse_args([" " + word if BEGINS_NEGATIVE.match(word) else word for word in words])
+    return option_parser().parse_args(shielded(words))
 
 
 def main(words: list[str]) -> int:

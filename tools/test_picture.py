@@ -16,6 +16,7 @@ from pathlib import Path
 from xml.etree import ElementTree
 
 import picture
+import program
 
 TOOL = Path(__file__).resolve().with_name("picture.py")
 SVG = "{http://www.w3.org/2000/svg}"
@@ -25,6 +26,20 @@ SMOOTHER = HEAD + """\
 input 0 width 16 low 0 bound 64
 output 0 row 0 width 16 low 0 error 2.5
 row 0: 0.25 u0 0; 0.75 v0 1
+"""
+
+SMOOTHER_CODE = """\
+#include "fixif.h"
+STEP(64, 1, 1, 1)
+{
+  IN(u0, 16);
+  a = 2;
+  a += MUL(1, u0, 0);
+  a += MUL(3, s0, 0);
+  r0 = LOW(SAR(a, 2), 16);
+  OUT(0, r0);
+  s0 = r0;
+}
 """
 
 # Puts, in place of fixif, three texts that stand beside it.
@@ -89,10 +104,47 @@ class ExactResponses(unittest.TestCase):
 
     def test_powers_of_two(self):
         for power in range(-16, 17):
-            self.assertEqual(picture.power_of_two(power) * 2**16, Decimal(2**(16 + power)))
+            self.assertEqual(program.power_of_two(power) * 2**16, Decimal(2**(16 + power)))
+
+
+class FrequencyResponses(unittest.TestCase):
+    """Gains that can be had by hand."""
+
+    def gains(self, show: str, *frequencies: float) -> list:
+        net = picture.net_of_filter(picture.read_show(show), 0)
+        return [net.gain(0, frequency) for frequency in frequencies]
+
+    def test_a_filter(self):
+        at_rest, at_half = self.gains(SMOOTHER, 0, 0.5)
+        self.assertAlmostEqual(at_rest, 1)
+        self.assertAlmostEqual(at_half, 0.25 / 1.75)
+
+    def test_rows_and_steps(self):
+        show = HEAD + ("input 0 width 16 low 0 bound 9\noutput 0 row 1 width 16 low -2 error 1\n"
+                       "row 0: 0.5 u0 0; 0.5 v1 1\nrow 1: 1 v0 0; 1 u0 1\n")
+        # y = u/2 + y(k-1)/2 + u(k-1), in quarter steps.
+        at_rest, at_half = self.gains(show, 0, 0.5)
+        self.assertAlmostEqual(at_rest, 4 * 1.5 / 0.5)
+        self.assertAlmostEqual(at_half, 4 * (0.5 - 1) / 1.5)
+
+    def test_code(self):
+        for text in [SMOOTHER_CODE, SMOOTHER_CODE.replace("a = 2;", "a = 0;").replace("SAR", "FLR")]:
+            net = picture.net_of_code(picture.read_code(text), 0)
+            self.assertAlmostEqual(net.gain(0, 0), 1)
+            self.assertAlmostEqual(net.gain(0, 0.5), 0.25 / 1.75)
+
+    def test_levels(self):
+        self.assertAlmostEqual(picture.decibels(10), 20)
+        self.assertEqual(picture.decibels(0), -picture.math.inf)
 
 
 class Scales(unittest.TestCase):
+    def test_spikes(self):
+        self.assertEqual(picture.spike_of([9.0, 1, -1]), 0)
+        self.assertEqual(picture.spike_of([1, -90.0, 10]), 1)
+        for values in [[8.0, 1, -1], [5.0, 0, 0], [0.0, 0], [-3.0]]:
+            self.assertIsNone(picture.spike_of(values), values)
+
     def test_ticks(self):
         self.assertEqual(picture.ticks(-1, 1), [-1.0, -0.5, 0.0, 0.5, 1.0])
         self.assertEqual(picture.ticks(0, 127), [0.0, 50.0, 100.0])
@@ -113,7 +165,9 @@ class Pictures(unittest.TestCase):
         program = self.folder / "program"
         program.write_text(PROGRAM.format(python=sys.executable), encoding="utf-8")
         program.chmod(0o755)
-        self.words = ["a.toml", "a.c", "a.txt", "--program", str(program), "--moments", "8"]
+        (self.folder / "a.c").write_text(SMOOTHER_CODE, encoding="utf-8")
+        self.unproved = f"picture: unproved: {program} is not the program of this repository\n"
+        self.words = ["a.toml", str(self.folder / "a.c"), "a.txt", "--program", str(program), "--moments", "8"]
 
     def say(self, **texts: str):
         for name, text in texts.items():
@@ -134,11 +188,21 @@ class Pictures(unittest.TestCase):
         self.assertIn("impulse response: the largest difference is 0.250000 steps, 2.000000001 is accepted", said)
         svg = ElementTree.fromstring(put)
         self.assertEqual(svg.find(f"{SVG}text").text, "a < b & c")
-        self.assertEqual(len(svg.findall(f"{SVG}circle")), 4 * 8 + 1)
-        self.assertEqual([len(line.get("points").split()) for line in svg.findall(f"{SVG}polyline")], [8, 8])
+        spectrum = -(-picture.FREQUENCIES // picture.DOT_EACH)
+        self.assertEqual(len(svg.findall(f"{SVG}circle")), 4 * 8 + spectrum + 1)
+        self.assertEqual([len(line.get("points").split()) for line in svg.findall(f"{SVG}polyline")],
+                         [8, 8, picture.FREQUENCIES])
         self.assertEqual(len([one for one in svg.findall(f"{SVG}rect") if one.get("class") == "band"]), 2)
         for one in svg.findall(f"{SVG}circle")[1:]:
-            self.assertTrue(70 <= float(one.get("cx")) <= 910 and 80 <= float(one.get("cy")) <= 590)
+            self.assertTrue(70 <= float(one.get("cx")) <= 910 and 80 <= float(one.get("cy")) <= 900)
+        texts = [one.text for one in svg.findall(f"{SVG}text")]
+        for wanted in ["moment", "output steps", "gain in dB", "frequency, as a part of the sampling rate", "0.01"]:
+            self.assertIn(wanted, texts)
+
+    def test_the_rate(self):
+        texts = [one.text for one in ElementTree.fromstring(self.run_tool("--rate", "48000")[1]).findall(f"{SVG}text")]
+        for wanted in ["frequency in Hz", "10", "1000", "24000"]:
+            self.assertIn(wanted, texts)
 
     def test_a_file(self):
         file = self.folder / "a.svg"
@@ -151,7 +215,7 @@ class Pictures(unittest.TestCase):
     def test_refused_code(self):
         self.say(check="1\nrefused I5 row 2 1 0\n")
         wanted = "picture: fixif check ends with status 1 and puts: refused I5 row 2 1 0\n"
-        self.assertEqual(self.run_tool(), (1, "", wanted))
+        self.assertEqual(self.run_tool(), (1, "", self.unproved + wanted))
 
     def test_a_difference_beyond_the_error(self):
         self.say(step="16 28 37 44 49 53 56 65")
@@ -161,7 +225,8 @@ class Pictures(unittest.TestCase):
 
     def test_files_that_are_not_read(self):
         self.say(show="8\n")
-        self.assertEqual(self.run_tool(), (3, "", "picture: fixif show ends with status 8 and puts: nothing\n"))
+        wanted = "picture: fixif show ends with status 8 and puts: nothing\n"
+        self.assertEqual(self.run_tool(), (3, "", self.unproved + wanted))
 
     def test_no_program(self):
         status, put, said = self.run_tool("--program", str(self.folder / "absent"))
@@ -170,7 +235,7 @@ class Pictures(unittest.TestCase):
 
     def test_options(self):
         for words in [["--moments", "1"], ["--moments", "4097"], ["--input", "1"], ["--output", "-1"],
-                      ["--word", "65"], ["--word", "-65"], ["--height", "3"]]:
+                      ["--word", "65"], ["--word", "-65"], ["--height", "3"], ["--rate", "0"]]:
             self.assertEqual(self.run_tool(*words)[:2], (2, ""), words)
 
     @unittest.skipUnless(os.path.exists("/dev/full"), "there is no /dev/full")

@@ -4,6 +4,10 @@
  *
  * The status is 6 with the line of the first fault where the samples are refused, 8 where they cannot be read, 2 where
  * there is no file name. Fields in quotes, a byte order mark and lines ended by a carriage return alone are not read.
+ *
+ * With -DFIXIF_CLAMP each word is first taken into its bound, as a firmware does with what its converter gives, and how
+ * many words were beyond it is said on standard error. The Makefile writes the bounds of the filter file into
+ * fixif_bounds.h.
  */
 #define _POSIX_C_SOURCE 200809L
 #include <stdbool.h>
@@ -14,6 +18,25 @@
 #include "fixif_step.h"
 
 enum { PORTS = 4, FIELD_DIGITS = 18 };
+
+/* How many input words were beyond their bounds. */
+static unsigned long beyond;
+
+#ifdef FIXIF_CLAMP
+#include "fixif_bounds.h"
+#include "fixif_clamp.h"
+
+static void clamp(int32_t in[PORTS])
+{
+    static const int32_t bounds[PORTS] = FIXIF_BOUNDS;
+    beyond += fixif_clamp(in, bounds, fixif_inputs);
+}
+#else
+static void clamp(int32_t in[PORTS])
+{
+    (void)in;
+}
+#endif
 
 /* The number of a field: blanks, perhaps a sign, digits, blanks. */
 static bool read_field(const char *field, long long *number)
@@ -45,16 +68,19 @@ static bool step(struct fixif_state *state, char *line, long record, int32_t out
 {
     char *fields[PORTS];
     long long numbers[PORTS];
+    bool fits[PORTS];
     int32_t in[PORTS] = {0};
     const int count = split(line, fields);
     int good = 0;
     if (count != fixif_inputs) return printf("bad samples columns %ld %d %d\n", record, count, fixif_inputs), false;
     for (; good < count && read_field(fields[good], &numbers[good]); good++) {
-        if (INT32_MIN <= numbers[good] && numbers[good] <= INT32_MAX) in[good] = (int32_t)numbers[good];
+        fits[good] = INT32_MIN <= numbers[good] && numbers[good] <= INT32_MAX;
+        if (fits[good]) in[good] = (int32_t)numbers[good];
     }
+    clamp(in);
     fixif_step(state, in, out);
     for (int j = 0; j < good; j++) {
-        const bool word = in[j] == numbers[j] && (state->outside >> j & 1) == 0;
+        const bool word = fits[j] && (state->outside >> j & 1) == 0;
         if (!word) return printf("bad samples out of word %ld %d %lld\n", record, j + 1, numbers[j]), false;
     }
     if (good < count) return printf("bad samples field %ld %d\n", record, good + 1), false;
@@ -69,6 +95,7 @@ static bool run(FILE *samples, bool put)
     char *line = NULL;
     size_t room = 0;
     bool good = true;
+    beyond = 0;
     rewind(samples);
     for (long record = 1; good && getline(&line, &room, samples) > 0;) {
         line[strcspn(line, "\r\n")] = '\0';
@@ -90,5 +117,6 @@ int main(int count, char **words)
     const bool good = run(samples, false) && run(samples, true);
     const bool read = !ferror(samples);
     fclose(samples);
+    if (beyond > 0) fprintf(stderr, "driver: %lu input words were beyond their bounds\n", beyond);
     return !read ? 8 : good ? 0 : 6;
 }

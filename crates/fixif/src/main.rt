@@ -65,7 +65,7 @@ fn main(rt: HostRuntime) -> ExitCode {
         Ok(words) => words,
         Err(cause) => return ExitCode::from(cause.number()),
     };
-    let mut shelf = DiskShelf::new(&rt);
+    let mut shelf = DiskShelf::new(rt.alloc(), &rt);
     let mut out = StdoutSink::new(&rt);
     end_of_run(rt.alloc(), &words, &mut shelf, &mut out)
 }

@@ -152,14 +152,3 @@ pub fn bench(rt: &(impl Print + Clock), rounds: u32) -> io::Result<()>
     let time = start.elapsed(rt)?;
     report(rt, "print_up 9 places", time, calls, checksum)
 }
-
-#[cfg(test)]
-mod tests {
-    use super::*;
-
-    #[test]
-    fn checksums_of_both_tables(rt: HostRuntime) {
-        assert_eq!(rt; read_sum(&NUMERALS, 48), 4358368142196104529);
-        assert_eq!(rt; printed_sum(&VALUES, 48), 3961716602700336279);
-    }
-}

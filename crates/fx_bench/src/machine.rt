@@ -151,35 +151,3 @@ pub fn bench<R: Print + Clock>(rt: &R, alloc: Global, count: u32) -> io::Result<
     time_steps(rt, alloc, "second_order_32", second_order(alloc, 32), count)?;
     time_steps(rt, alloc, "detour_16", detour(alloc), count)
 }
-
-#[cfg(test)]
-mod tests {
-    use super::*;
-    use std::test::Fail;
-
-    fn hundred(
-        alloc: Global,
-        program: Result<Program, ProgramFault>,
-    ) -> Result<(u64, u64), ProgramFault>
-        requires input { IfOk program (λ p. p.inputs ≡ 16 ∷ []) }
-        requires output { IfOk program (λ p. length p.outputs ≡ 1) }
-    {
-        let program = program?;
-        let Ok(mut machine) = Machine::new(alloc, &program) else {
-            return Err(ProgramFault::NoMemory);
-        };
-        let sums = run(&mut machine, 100);
-        Ok((sums.words, sums.marks))
-    }
-
-    #[test]
-    fn checksums_of_hundred_moments(rt: HostRuntime) -> Result<(), Fail> {
-        let plain = hundred(rt.alloc(), second_order(rt.alloc(), 64))?;
-        assert_eq!(rt; plain, (5032719285597135321, 0));
-        let watched = hundred(rt.alloc(), second_order(rt.alloc(), 32))?;
-        assert_eq!(rt; watched, (16443248892845971569, 13406361342061419992));
-        let partial = hundred(rt.alloc(), detour(rt.alloc()))?;
-        assert_eq!(rt; partial, (1538813157959920669, 9139541644018974242));
-        Ok(())
-    }
-}

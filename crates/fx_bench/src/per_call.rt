@@ -49,16 +49,3 @@ pub fn report(
     let per_call = PerCall::new(time, calls);
     println!(rt; "{name} {per_call} checksum {checksum}")
 }
-
-#[cfg(test)]
-mod tests {
-    use super::*;
-    use std::test::Fail;
-
-    #[test]
-    fn nanoseconds_with_one_place(rt: HostRuntime) -> Result<(), Fail> {
-        let text = PerCall::new(Duration::from_nanos(1239), 100).to_string(rt.alloc())?;
-        assert_eq!(rt; text.as_str(), "12.3");
-        Ok(())
-    }
-}

@@ -33,7 +33,7 @@ use Rattle.fx_block.specs.Candidate.Trial.{AboveTarget, OutOfRange, OverCap, Pas
 use Rattle.fx_block.specs.Formats.{bound_of, output_at, shift_of}
 use Rattle.fx_block.specs.Ideal.{WidthsHold}
 use Rattle.fx_block.specs.Least.{AreLeastBounds}
-use Rattle.fx_block.specs.Made.{CandidatesPass, IsCertificateOf, IsProgramOf}
+use Rattle.fx_block.specs.Made.{CandidatesPass, IsCertificateOf, IsProgramOf, PassedBoundsAreLeast}
 use Rattle.fx_block.specs.Passes.{IsOfForm, Passes, bound_at, error_at, judged_net, pair_of, row_count}
 use Rattle.fx_block.specs.Raising.{Raises, RestIsLeast, least_by_raises}
 use Rattle.fx_block.specs.Raising.Raises.{Over, Rest, Slow}
@@ -147,6 +147,24 @@ sum_fits x shift bits l h =
     mul-le-mul_left (2 ^ shift) (let m : x + 1 ≤ 2 ^ (bits - 1 - shift) = omega (arith, h, some) in m) in
     omega (arith, ints, below, split)
 
+-- ---- its bounds
+
+module _ (filter : Filter) (rows : List BareRow) (moments : ℕ) (x : ℕ → ℕ) (of : PassesTrial filter rows moments x)
+  where
+  kept_rows : candidate_count filter rows ≤ (candidate_net filter rows).rows
+  unfolding put_rows
+  kept_rows = omega arith
+
+  least_bounds : RestIsLeast → 0 < moments → AreLeastBounds (candidate_net filter rows) (candidate_count filter rows)
+      (λ j. moments) (bound_of filter) x
+  least_bounds law some =
+      law (candidate_net filter rows) (candidate_count filter rows) (λ j. moments) (bound_of filter)
+      (cap_of filter rows) x kept_rows (λ j l. some) of.rests
+
+pub bounds_are_least : RestIsLeast → PassedBoundsAreLeast
+bounds_are_least law filter rows moments x some passes =
+    least_bounds filter rows moments x (passed filter rows moments x passes) law some
+
 -- ---- programs and certificates of a candidate that passes
 
 module _ (filter : Filter) (rows : List BareRow) (moments : ℕ) (x : ℕ → ℕ) (p : Code) (c : Certificate)
@@ -253,21 +271,11 @@ module _ (filter : Filter) (rows : List BareRow) (moments : ℕ) (x : ℕ → �
     errors = certificate.error_count;
   }
 
-  kept_rows : candidate_count filter rows ≤ (candidate_net filter rows).rows
-  unfolding put_rows
-  kept_rows = omega arith
-
   no_ranges : (first_target (candidate_count filter rows) 0 (λ j.
       first_range_in (candidate_net filter rows) (start_of (Row j)) moments) ≡ None)
       × (first_target (length filter.outputs) (candidate_count filter rows) (λ o.
       first_range_in (candidate_net filter rows) (start_of (candidate_pair filter rows o)) moments) ≡ None)
   no_ranges = or_none _ _ of.ranges
-
-  least_bounds : RestIsLeast → 0 < moments → AreLeastBounds (candidate_net filter rows) (candidate_count filter rows)
-      (λ j. moments) (bound_of filter) x
-  least_bounds law some =
-      law (candidate_net filter rows) (candidate_count filter rows) (λ j. moments) (bound_of filter)
-      (cap_of filter rows) x kept_rows (λ j l. some) of.rests
 
   pub made_passes : RestIsLeast → 0 < moments → Passes filter p c
   made_passes law some = record {
@@ -278,7 +286,8 @@ module _ (filter : Filter) (rows : List BareRow) (moments : ℕ) (x : ℕ → �
         ∙ ap (λ target. first_range_in (candidate_net filter rows) (start_of target) moments) (same_pair o l)
         ∙ none_first _ (candidate_count filter rows) _ no_ranges.1 o l;
     bounds = λ j l. (let here : j < candidate_count filter rows = omega (arith, l, total_count) in
-        rw (same_total (Row j), certificate.bounds j) ((least_bounds law some).serve j here).total);
+        rw (same_total (Row j), certificate.bounds j)
+        ((least_bounds filter rows moments x of law some).serve j here).total);
     widths = widths_hold;
     errors = λ o l. subst (λ total. total ≤ℤ error_at c o) (certificate.errors o l ∙ sym (same_pair_total o l))
         (omega (arith, ints));

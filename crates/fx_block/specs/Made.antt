@@ -6,9 +6,10 @@ use Rattle.fx_code.specs.Code.{BareRow, Code, row_at}
 use Rattle.fx_code.specs.Fits.{CodeFits}
 use Rattle.fx_code.specs.NetRows.{bare_rows}
 use Rattle.fx_cert.specs.Certificate.{Certificate}
-use Rattle.fx_block.specs.Candidate.{candidate_count, candidate_total, inner_count, trial}
+use Rattle.fx_block.specs.Candidate.{candidate_count, candidate_net, candidate_total, inner_count, trial}
 use Rattle.fx_block.specs.Candidate.Trial.{Passed}
-use Rattle.fx_block.specs.Formats.{input_at, output_at}
+use Rattle.fx_block.specs.Formats.{bound_of, input_at, output_at}
+use Rattle.fx_block.specs.Least.{AreLeastBounds}
 use Rattle.fx_block.specs.Passes.{Passes, bound_at, error_at}
 
 -- The program has these rows over the filter's accumulators, inputs and outputs: the last rows are put out, in the
@@ -39,3 +40,10 @@ CandidatesPass =
     (filter : Filter) (rows : List BareRow) (moments : ℕ) (x : ℕ → ℕ) (p : Code) (c : Certificate) →
     0 < moments → trial filter rows moments ≡ Passed x → CodeFits p → IsProgramOf filter rows x p →
     IsCertificateOf filter rows moments x c → Passes filter p c
+
+-- the bounds with which a candidate passes are the least of all that serve after so many moments
+abbrev pub PassedBoundsAreLeast : Type 0
+PassedBoundsAreLeast =
+    (filter : Filter) (rows : List BareRow) (moments : ℕ) (x : ℕ → ℕ) → 0 < moments →
+    trial filter rows moments ≡ Passed x →
+    AreLeastBounds (candidate_net filter rows) (candidate_count filter rows) (λ j. moments) (bound_of filter) x

@@ -1,5 +1,5 @@
 ghost use Rattle.fx_block.specs.Certified.{NoneFails, OriginalStaysWithin, PassingIsSound};
-ghost use Rattle.fx_block.specs.Made.{CandidatesPass};
+ghost use Rattle.fx_block.specs.Made.{CandidatesPass, PassedBoundsAreLeast};
 
 use crate::laws::bounds_make_near;
 use crate::least::raises_find_the_least;
@@ -28,9 +28,10 @@ pub fn none_fails_where_all_hold()
 {}
 
 /// A law with nothing to run: a program that has the rows of a candidate that passes, and a certificate that has its
-/// bounds and totals, meet all inequalities.
+/// bounds and totals, meet all inequalities. The bounds are the least of all that serve at the candidate's length.
 pub fn passing_candidates_pass()
-    ensures { CandidatesPass }
+    ensures pass { CandidatesPass }
+    ensures least { PassedBoundsAreLeast }
 {
     raises_find_the_least();
 }

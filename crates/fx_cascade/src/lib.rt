@@ -4,8 +4,6 @@
 mod cascades;
 mod laws;
 mod sections;
-#[cfg(test)]
-mod tests;
 
 pub use cascades::{cascade_df1, cascade_df2t};
 pub use laws::{

@@ -7,7 +7,8 @@ use Rattle.fx_files.specs.Filter.{Filter}
 use Rattle.fx_code.specs.Code.{Code}
 use Rattle.fx_cert.specs.Certificate.{Certificate, output_length}
 use Rattle.fx_sweep.specs.Target.{start_of}
-use Rattle.fx_totals.specs.Totals.{input_part, rest_part, rounding, width_part}
+use Rattle.fx_totals.specs.Totals.{input_part, rest_part, rounding, target_total, width_part}
+use Rattle.fx_error.specs.PartsOf.{whole_of}
 use Rattle.fx_error.specs.declared.parts.Parts.{Parts}
 use Rattle.fx_block.specs.Failure.{Failure, first_failure, form_failure, range_failure}
 use Rattle.fx_block.specs.Formats.{bound_of}
@@ -47,3 +48,9 @@ known_parts filter p c =
 pub record IsReportOf (filter : Filter) (p : Code) (c : Certificate) (report : Report) : Type 0 where
   pub verdict_is : failure_of report.verdict ≡ first_failure filter p c
   pub parts_are : report.parts ≡ known_parts filter p c
+
+-- the parts of an output's error add up to the total of its pair, with which the certificate's error is compared
+abbrev pub PartsAddUp : Type 0
+PartsAddUp =
+    (filter : Filter) (p : Code) (c : Certificate) (o : ℕ) → whole_of (parts_at filter p c o)
+    ≡ target_total (judged_net filter p) (start_of (pair_of filter p o)) (output_length c o) (bound_of filter) (bound_at c)

@@ -4,6 +4,7 @@
 mod bounds;
 mod form;
 mod judging;
+mod laws;
 mod numbers;
 mod refusal;
 mod report;
@@ -12,6 +13,7 @@ mod targets;
 mod verdict;
 
 pub use judging::Judge;
+pub use laws::parts_add_up;
 pub use report::Report;
 pub use sizes::{explain, judge};
 pub use verdict::Verdict;

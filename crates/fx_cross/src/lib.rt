@@ -6,8 +6,6 @@ mod cell;
 mod cross;
 mod laws;
 mod limits;
-#[cfg(test)]
-mod tests;
 mod walk;
 
 pub use cross::{Cross, Link, entries_have_places};

@@ -1,5 +1,5 @@
 /// Why a text is no numeral, or one that is out of range.
-#[derive(Clone, Copy, Debug, PartialEq, Eq)]
+#[derive(Clone, Copy, Debug)]
 pub enum DecimalFault {
     /// The text ends while a digit is still needed.
     Empty,

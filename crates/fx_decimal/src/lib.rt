@@ -14,6 +14,3 @@ pub use read::{
     bad_byte_is_where_it_stops, empty_is_unfinished, fraction_is_read_exactly,
     numeral_is_read_as_it_means, read_decimal,
 };
-
-#[cfg(test)]
-mod tests;

@@ -4,8 +4,6 @@
 mod entries;
 mod forms;
 mod laws;
-#[cfg(test)]
-mod tests;
 
 pub use forms::{df1, df2, df2t, fir};
 pub use laws::{

@@ -6,8 +6,6 @@ mod design;
 mod large;
 mod peaks;
 mod structure;
-#[cfg(test)]
-mod tests;
 
 pub use design::{design_lines, designs_are_lines, no_design_lines};
 pub use large::{jobs_are_lines, large_lines};

@@ -1,4 +1,4 @@
-mod Alone
+pub mod Alone
 mod Bounding
 mod Ending
 mod Firsts

@@ -4,7 +4,7 @@ use fx_block::LengthWhy;
 use std::marker::Model;
 
 /// Why a listed length does not serve.
-#[derive(Clone, Copy, Debug, PartialEq, Eq)]
+#[derive(Clone, Copy)]
 pub struct LengthFail {
     /// The length, in moments.
     pub length: u16,

@@ -10,8 +10,6 @@ mod finding;
 mod laws;
 mod lengths;
 mod peaks;
-#[cfg(test)]
-mod tests;
 mod weights;
 
 pub use fails::{LengthFail, LengthFails, PeakFault};

@@ -2,12 +2,14 @@
 // answered becomes the answer of the shelf or the sink by `counted`, `placed` and `taken`.
 ghost use Rattle.std.specs.Prelude.{◌≡◌, ◌+◌, ◌<◌, ◌≤◌, IfOk, IfErr, OnOk, OnErr, length};
 ghost use Rattle.std.specs.IoError.{error_kind};
-ghost use Rattle.std.specs.Io.KnownBytes.{Appends};
 ghost use Rattle.fx_io.specs.Causes.{saturated, CountsWrite, HasCause, IsCounted, TellsError};
 ghost use Rattle.fx_io.specs.Outside.{files_untold, output_untold};
 
+use crate::opened::{Opened, open_at};
 use crate::shelf::{IoFault, Shelf, Sink};
-use std::io::{ErrorKind, Read, Seek, SeekFrom, Write};
+use crate::whole::{place_whole, write_whole};
+use std::alloc::Global;
+use std::io::ErrorKind;
 use std::marker::Model;
 use std::rt::Files;
 use std::{fs, io};
@@ -66,25 +68,26 @@ fn taken(answer: io::Result<usize>, faults: &mut u64) -> Result<usize, IoFault>
     Ok(n)
 }
 
-// Writes all of the bytes: a short write goes on.
-fn write_whole<W: Write>(file: &mut W, bytes: &[u8]) -> io::Result<()>
-    ensures { OnOk result (Appends (W.contents file.old) (W.contents file.new) bytes.now) }
+// Writes what the output takes of the bytes. A write that a signal interrupted is made again.
+fn print_again<R: Print>(rt: &R, bytes: &[u8]) -> io::Result<usize>
+    ensures { IfOk result (λ n. n ≤ length bytes.now) }
 {
-    file.write_all(bytes)
+    for _ in 0..u64::MAX {
+        match rt.write_some(bytes) {
+            Err(error) if error.kind() == ErrorKind::Interrupted => {}
+            answer => return answer,
+        }
+    }
+    Err(ErrorKind::Interrupted.into())
 }
 
-fn read_file<R: Files>(rt: &R, name: &str, from: u64, into: &mut [u8]) -> io::Result<usize>
-    ensures { IfOk result (λ n. n ≤ length into.new) }
-{
-    let mut file = fs::open(rt, name)?;
-    file.seek(SeekFrom::Start(from))?;
-    file.read(into)
-}
-
-/// Files of the file system. Every name may be tried.
+/// Files of the file system. Every name may be tried. The file that is read stands open from its first piece to its
+/// last, so that pieces in order are of one file, and may come from a pipe.
 #[derive(Drop)]
 pub struct DiskShelf<'r, R: Files> {
+    alloc: Global,
     rt: &'r R,
+    opened: Option<Opened<R::File>>,
     read_faults: u64,
     place_faults: u64,
 }
@@ -99,14 +102,31 @@ impl<'r, R: Files> Model for DiskShelf<'r, R> {
 
 impl<'r, R: Files> DiskShelf<'r, R> {
     /// The files of this runtime, before any fault.
-    pub fn new(rt: &'r R) -> DiskShelf<'r, R>
+    pub fn new(alloc: Global, rt: &'r R) -> DiskShelf<'r, R>
         ensures { result ≡ record { read_faults = 0; place_faults = 0 } }
     {
         DiskShelf {
+            alloc,
             rt,
+            opened: None,
             read_faults: 0,
             place_faults: 0,
         }
+    }
+
+    // Reads on in the file that stands open, where the piece is its next one, else opens the file anew. After an error
+    // none stands open.
+    fn read_piece(&mut self, name: &str, from: u64, into: &mut [u8]) -> io::Result<usize>
+        ensures within { IfOk result (λ n. n ≤ length into.new) }
+        ensures counts { self.new ≡ self.old }
+    {
+        let mut file = match self.opened.take() {
+            Some(file) if file.goes_on(name, from) => file,
+            _ => open_at(self.alloc, self.rt, name, from)?,
+        };
+        let count = file.read(into)?;
+        self.opened = Some(file);
+        Ok(count)
     }
 }
 
@@ -114,10 +134,17 @@ impl<'r, R: Files> Shelf for DiskShelf<'r, R> {
     ghost seen = { files_untold };
 
     fn read_at(&mut self, name: &str, from: u64, into: &mut [u8]) -> Result<usize, IoFault> {
-        counted(read_file(self.rt, name, from, into), &mut self.read_faults)
+        let answer = self.read_piece(name, from, into);
+        counted(answer, &mut self.read_faults)
     }
 
     fn place(&mut self, name: &str, bytes: &[u8]) -> Result<(), IoFault> {
+        if counted(
+            place_whole(self.alloc, self.rt, name, bytes),
+            &mut self.place_faults,
+        )? {
+            return Ok(());
+        }
         let mut file = counted(fs::create(self.rt, name), &mut self.place_faults)?;
         placed(write_whole(&mut file, bytes), &mut self.place_faults)
     }
@@ -151,6 +178,6 @@ impl<'r, R: Print> Sink for StdoutSink<'r, R> {
     ghost seen = { output_untold };
 
     fn put(&mut self, bytes: &[u8]) -> Result<usize, IoFault> {
-        taken(self.rt.write_some(bytes), &mut self.faults)
+        taken(print_again(self.rt, bytes), &mut self.faults)
     }
 }

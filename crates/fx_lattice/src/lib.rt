@@ -9,8 +9,6 @@ mod operands;
 mod refusal;
 mod rungs;
 mod structure;
-#[cfg(test)]
-mod tests;
 
 pub use laws::{ladder_is_never_refused, ladder_keeps_the_outputs, orders_are_enclosed};
 pub use limits::{REFLECTION_BITS, TAP_BITS, lattice_limits_are_these};

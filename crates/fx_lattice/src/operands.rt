@@ -11,7 +11,7 @@ use fx_nums::{Frac, Iv, OPERAND_BITS, SCALE_BITS};
 use std::marker::Model;
 
 /// An interval with ends below 2^88 in magnitude.
-#[derive(Clone, Copy, Debug, PartialEq, Eq)]
+#[derive(Clone, Copy)]
 pub struct Operand {
     interval: Iv,
 }
@@ -121,7 +121,7 @@ pub fn one() -> Operand
 }
 
 /// An interval of numbers strictly between -1 and 1.
-#[derive(Clone, Copy, Debug, PartialEq, Eq)]
+#[derive(Clone, Copy)]
 pub struct Reflection {
     interval: Iv,
 }

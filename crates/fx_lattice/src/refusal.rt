@@ -5,7 +5,7 @@ use fx_nums::Iv;
 use std::alloc::AllocError;
 
 /// Why step-down gives no lattice. The first number is the step's, from the order down to 1.
-#[derive(Clone, Copy, Debug, PartialEq, Eq)]
+#[derive(Clone, Copy)]
 pub enum Step {
     /// The enclosure of this step's reflection coefficient does not lie strictly between -1 and 1.
     NotBelowOne(u8, Iv),

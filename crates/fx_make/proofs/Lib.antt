@@ -1,4 +1,5 @@
 mod AtRest
+mod First
 mod FirstLength
 mod FormatsOf
 mod GoingOn

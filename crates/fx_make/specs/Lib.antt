@@ -1,5 +1,6 @@
 pub mod Candidates
 pub mod Designs
+pub mod First
 pub mod Lengths
 pub mod Made
 pub mod Search

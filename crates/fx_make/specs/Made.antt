@@ -3,6 +3,9 @@ use Rattle.std.specs.Prelude.{◌≡◌, ⊤, false, List, [], Option, Some, Non
 use Rattle.fx_math.specs.Faults.{◌>>=◌}
 use Rattle.fx_files.specs.Filter.{Filter}
 use Rattle.fx_code.specs.Code.{IsWhole}
+use Rattle.fx_block.specs.Candidate.{candidate_count, candidate_net}
+use Rattle.fx_block.specs.Formats.{bound_of}
+use Rattle.fx_block.specs.Least.{AreLeastBounds}
 use Rattle.fx_block.specs.Made.{IsCertificateOf, IsProgramOf}
 use Rattle.fx_block.specs.Passes.{Passes}
 use Rattle.fx_make.specs.Candidates.{Candidate, Passing}
@@ -15,14 +18,21 @@ use Rattle.fx_make.specs.declared.answer.MakeFault.TheVariants.{NoDesign, NoMemo
 use Rattle.fx_make.specs.declared.answer.Made.{Made}
 use Rattle.fx_make.specs.declared.refusal.StructureFault.{StructureFault}
 
+-- the bounds with which a candidate passes are the least of all that serve at its length
+abbrev pub HasLeastBounds : Filter → Candidate → Passing → Type 0
+HasLeastBounds f c p =
+    AreLeastBounds (candidate_net f p.design.rows) (candidate_count f p.design.rows) (λ j. c.length) (bound_of f) p.bounds
+
 -- A program with the rows of a candidate that passes, whose inner words have the least widths that take their bounds,
--- and a certificate with its bounds and totals; they meet all inequalities.
+-- and a certificate with its bounds, the least that serve at the candidate's length, and its totals; they meet all
+-- inequalities.
 pub record IsMadeOf (f : Filter) (c : Candidate) (p : Passing) (m : Made) : Type 0 where
   pub guard : m.guard ≡ c.guard
   pub fraction : m.fraction ≡ c.fraction
   pub length : m.length ≡ c.length
   pub program : IsProgramOf f p.design.rows p.bounds m.program
   pub certificate : IsCertificateOf f p.design.rows c.length p.bounds m.cert
+  pub least : HasLeastBounds f c p
   pub whole : IsWhole m.program
   pub passes : Passes f m.program m.cert
 

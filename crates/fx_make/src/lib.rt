@@ -6,6 +6,7 @@ mod answer;
 mod caps;
 mod fail;
 mod joint;
+mod laws;
 mod lengths;
 mod made;
 mod quantising;
@@ -17,6 +18,7 @@ mod trying;
 
 pub use answer::{Fails, Made, MakeFault};
 pub use fail::{Fail, Failed};
+pub use laws::search_finds_the_first;
 pub use refusal::StructureFault;
 pub use searching::make;
 pub use structure::build_structure;

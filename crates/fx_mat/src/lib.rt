@@ -3,8 +3,6 @@
 
 mod fractions;
 mod intervals;
-#[cfg(test)]
-mod tests;
 
 pub use fractions::{FracMat, entries_outside_are_zero};
 pub use intervals::{IvMat, PRODUCT_TERMS, intervals_outside_are_zero, product_terms_are_these};

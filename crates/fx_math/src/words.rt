@@ -25,15 +25,3 @@ pub fn widths_are_these()
     ensures greatest { GREATEST_WIDTH ≡ 32 }
     ensures accumulators { ACCUMULATORS ≡ 16 ∷ 32 ∷ 64 ∷ [] }
 {}
-
-#[cfg(test)]
-mod tests {
-    use super::*;
-
-    #[test]
-    fn accumulators(rt: HostRuntime) {
-        for (bits, listed) in [(16, true), (32, true), (64, true), (0, false), (24, false)] {
-            assert_eq!(rt; is_accumulator(bits), listed);
-        }
-    }
-}

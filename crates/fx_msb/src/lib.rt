@@ -1,8 +1,6 @@
 //! How many bits a word and an accumulator need, and where the highest bit of a word stands.
 #![tactic(auto)]
 
-#[cfg(test)]
-mod tests;
 mod widths;
 
 pub use widths::{

@@ -6,8 +6,6 @@ mod laws;
 mod layout;
 mod limits;
 mod net;
-#[cfg(test)]
-mod tests;
 
 pub use laws::{
     denominators_stay, each_net_has_a_run, expanded_rows_agree,

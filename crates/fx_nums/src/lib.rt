@@ -12,8 +12,6 @@ mod limits;
 mod products;
 mod signs;
 mod tens;
-#[cfg(test)]
-mod tests;
 mod whole;
 
 pub use fraction::{Den, Frac};

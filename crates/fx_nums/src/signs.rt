@@ -18,14 +18,3 @@ pub fn signed(negative: bool, magnitude: u64) -> i64
     let number = magnitude as i64;
     if negative { -number } else { number }
 }
-
-#[cfg(test)]
-mod tests {
-    use super::*;
-
-    #[test]
-    fn tells_blanks_and_puts_signs(rt: HostRuntime) {
-        assert_eq!(rt; (is_blank(b'\t'), is_blank(b'0')), (true, false));
-        assert_eq!(rt; (signed(true, 17), signed(false, 17)), (-17, 17));
-    }
-}

@@ -56,20 +56,3 @@ pub fn whole_at(text: &[u8], at: usize, limit: u128) -> Option<(u128, usize)>
 pub fn whole_is_read_exactly()
     ensures { WholeLaw }
 {}
-
-#[cfg(test)]
-mod tests {
-    use super::*;
-
-    #[test]
-    fn reads_whole_numbers(rt: HostRuntime) {
-        assert_eq!(rt; whole_at(b"a120,", 1, 121), Some((120, 4)));
-        assert_eq!(rt; whole_at(b"a120,", 1, 120), None);
-        assert_eq!(rt; whole_at(b"0", 0, 1), Some((0, 1)));
-        assert_eq!(rt; whole_at(b"00", 0, 1), None);
-        assert_eq!(rt;
-            whole_at(b"999999999999999999999999999999999999999999", 0, 1 << 127),
-            None
-        );
-    }
-}

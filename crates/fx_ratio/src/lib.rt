@@ -6,8 +6,6 @@ mod products;
 mod ratio;
 mod ratios;
 mod span;
-#[cfg(test)]
-mod tests;
 
 pub use ratio::Ratio;
 pub use ratios::Ratios;

@@ -6,7 +6,7 @@ use fx_nums::{INTERVAL_BITS, Iv, SUMMAND_BITS};
 use std::marker::Model;
 
 /// The numbers from `low / 2^64` to `(low + width) / 2^64`: an interval as it is quickest to add to.
-#[derive(Clone, Copy, Debug, PartialEq, Eq)]
+#[derive(Clone, Copy)]
 pub struct Span {
     low: i128,
     width: u128,

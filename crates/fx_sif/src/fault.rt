@@ -1,5 +1,5 @@
 /// Why entries make no implicit form. A number of 32 bits is the place of an entry among the given ones.
-#[derive(Clone, Copy, Debug, PartialEq, Eq)]
+#[derive(Clone, Copy)]
 pub enum SifFault {
     /// The entry lies outside its block.
     Shape(u32),

@@ -10,8 +10,6 @@ mod laws;
 mod limits;
 mod parts;
 mod rows;
-#[cfg(test)]
-mod tests;
 
 pub use entries::{add_across, add_against, add_delays, add_entry, coefficient};
 pub use fault::SifFault;

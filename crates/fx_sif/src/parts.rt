@@ -6,7 +6,7 @@ use fx_nums::Frac;
 /// The nine blocks of `J t' = M x + N u`, `x' = K t' + P x + Q u`, `y = L t' + R x + S u`. Here u are the
 /// inputs and y the outputs of a moment, x the states before it and x' those behind it, and t' the moment's
 /// intermediate variables. As counts, t, x, u and y are those of `Sizes`.
-#[derive(Clone, Copy, Debug, PartialEq, Eq)]
+#[derive(Clone, Copy, PartialEq, Eq)]
 pub enum Block {
     /// t rows and t columns.
     J,
@@ -29,7 +29,7 @@ pub enum Block {
 }
 
 /// The entry of row `i` and column `j` of a block.
-#[derive(Clone, Copy, Debug, PartialEq, Eq)]
+#[derive(Clone, Copy)]
 pub struct Entry {
     /// One of the nine blocks.
     pub block: Block,
@@ -43,7 +43,7 @@ pub struct Entry {
 
 /// How many intermediate variables, states, inputs and outputs there are. The rows, `t + x + y`, are at most
 /// `FORM_ROWS`.
-#[derive(Clone, Copy, Debug, PartialEq, Eq)]
+#[derive(Clone, Copy)]
 pub struct Sizes {
     /// Intermediate variables: 0 to `FORM_ROWS` - 1.
     pub t: u8,

@@ -3,8 +3,6 @@
 
 mod form;
 mod laws;
-#[cfg(test)]
-mod tests;
 
 pub use form::space;
 pub use laws::{space_is_never_refused, space_keeps_the_outputs};

@@ -8,8 +8,6 @@ mod numbers;
 mod repeating;
 mod sweep;
 mod target;
-#[cfg(test)]
-mod tests;
 
 pub use laws::{intervals_stay_ordered, standing_moments_repeat};
 pub use limits::{GREATEST_LENGTH, GREATEST_SHIFT, sweep_limits_are_these};

@@ -1,7 +1,7 @@
 //! What is swept, and where a sweep grew too large.
 
 /// What the sweep of a net bounds.
-#[derive(Clone, Copy, Debug, PartialEq, Eq)]
+#[derive(Clone, Copy, PartialEq, Eq)]
 pub enum Target {
     /// The value of a row.
     Row(u8),

@@ -3,8 +3,6 @@
 
 mod systems;
 mod terms;
-#[cfg(test)]
-mod tests;
 
 pub use systems::{cascade_system, ladder_system, space_system, transfer_system};
 pub use terms::Space;

@@ -27,7 +27,7 @@ use Rattle.fx_tool.specs.Answer.{Answer, absent, says}
 use Rattle.fx_tool.specs.Check.{certified, check_plan, code_plan, filter_plan}
 use Rattle.fx_tool.specs.CheckCauses.{HasBytes, HasFilter, HasCode, HasCertificate, HasAll}
 use Rattle.fx_tool.specs.CheckCauses.{BadFilterExactly, BadCodeExactly, BadCertificateExactly, RefusedExactly}
-use Rattle.fx_tool.specs.CheckCauses.{PassingIsAccepted}
+use Rattle.fx_tool.specs.CheckCauses.{AcceptedExactly, PassingIsAccepted}
 use Rattle.fx_words.specs.Command.{Command, operands_of}
 use Rattle.fx_tool.specs.Judgement.{by_failure, judged}
 use Rattle.fx_words.specs.Operand.{limit_of}
@@ -237,4 +237,19 @@ refused law none words files filter code cert f p c h =
           status_along _ _ Refused (is ∙ judged_accepted f p c ((none f p c).1 passes)) status in cc),
       λ fails.
           ap (λ (a : Answer). a.status) is ∙ judged_refused f p c (λ e. fails ((none f p c).0 e)),
+    )
+
+failure_done : (r : Option Failure) (c : Certificate) → (by_failure r c.errors).status ≡ Done → r ≡ None
+failure_done None c h = refl
+failure_done (Some failure) c h = cc
+
+judged_done : (f : Filter) (p : Code) (c : Certificate) → (judged f p c).status ≡ Done → first_failure f p c ≡ None
+unfolding judged
+judged_done f p c h = failure_done (first_failure f p c) c h
+
+pub accepted : CertificateLaw → NoneFails → AcceptedExactly
+accepted law none words files filter code cert f p c h =
+    let is = has_all law words files filter code cert f p c h in (
+      λ status. (none f p c).0 (judged_done f p c (sym (ap (λ (a : Answer). a.status) is) ∙ status)),
+      λ passes. ap (λ (a : Answer). a.status) (is ∙ judged_accepted f p c ((none f p c).1 passes)),
     )

@@ -1,6 +1,7 @@
 -- What is found over the first listed length that serves, and that each listed length fails.
 use Rattle.std.proofs.Common.{◌≡◌, ◌∙◌, ℕ, zero, suc, ◌<◌, ◌++◌, ℤ, arith, List, [], ◌∷◌, length, map, codes}
-use Rattle.std.proofs.Common.{Some, None, refl, sym, ap, ap₂}
+use Rattle.std.proofs.Common.{Option, Some, None, refl, sym, ap, ap₂}
+use Rattle.std.specs.Prelude.{Contains}
 use Rattle.std.proofs.lemmas.List.Folds.{flat_map-map}
 use Rattle.fx_math.specs.Sums.{joined}
 use Rattle.fx_net.specs.Net.{Net}
@@ -61,3 +62,18 @@ none_found f fails h =
     ap (by_serving f) (none_serves (original_net f) f f.settings.lengths fails h)
     ∙ ap (λ failures. says NoDesign (fails_text failures)) h
     ∙ ap (λ lines. says NoDesign (codes "no design\n" ++ lines)) (flat_map-map fail_text Some fails)
+
+-- ---- the length that serves is one of those that are tried
+
+listed_step : (m x : ℕ) (xs : List ℕ) (why : Option LengthFail) (later : Option ℕ) →
+    (later ≡ Some m → Contains xs m) → serving_or x why later ≡ Some m → Contains (x ∷ xs) m
+listed_step m x xs None later rest e = (let same : x ≡ m = cc in (0, (omega arith, same)))
+listed_step m x xs (Some fail) later rest e =
+    (let on = rest e in (suc on.0, ((let below = on.1.0 in omega (arith, below)), on.1.1)))
+
+pub serving_listed : (f : Filter) (ms : List ℕ) (m : ℕ) → first_serving (original_net f) f ms ≡ Some m →
+    Contains ms m
+serving_listed f [] m e = cc
+serving_listed f (x ∷ xs) m e =
+    listed_step m x xs (length_failure (original_net f) f x) (first_serving (original_net f) f xs)
+    (serving_listed f xs m) e

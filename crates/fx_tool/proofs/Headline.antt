@@ -1,7 +1,7 @@
 -- Status 0 is the answer only where the files read as what they stand for; then what status 0 claims follows.
 use Rattle.std.proofs.Common.{◌≡◌, inl, inr, ◌∙◌, ℕ, ℤ, Bool, true, false, List, [], ◌∷◌, length, Option, Some}
 use Rattle.std.proofs.Common.{None, IsSomeAnd, Result, Ok, Err, IsOkAnd, refl, sym, ap, ap₂, subst, nat_le, cond, ◌++◌}
-use Rattle.std.proofs.Common.{◌≤◌}
+use Rattle.std.proofs.Common.{◌≤◌, ◌+◌, ◌-◌, pos}
 use Rattle.std.proofs.lemmas.Bool.{leb-true}
 use Rattle.std.specs.FinMap.{get}
 use Rattle.std.specs.Option.{option_or}
@@ -26,16 +26,19 @@ use Rattle.fx_cert.specs.Reading.{certificate_in}
 use Rattle.fx_cert.specs.declared.fault.CertFault.{CertFault}
 use Rattle.fx_block.specs.Certified.{NoneFails}
 use Rattle.fx_block.specs.Failure.{Failure, first_failure, form_failure, range_failure}
-use Rattle.fx_block.specs.Sound.{IsSound}
+use Rattle.fx_block.specs.Certified.{PassesSound}
 use Rattle.fx_check.specs.Report.{known_parts, parts_of, parts_unless}
 use Rattle.fx_error.specs.declared.parts.Parts.{Parts}
-use Rattle.fx_gain.specs.Enclosing.{enclosure, worst_words}
+use Rattle.fx_block.specs.Formats.{bound_of}
+use Rattle.fx_gain.proofs.Alone.{length_singles}
+use Rattle.fx_gain.specs.Enclosing.{enclosure, weight, worst_word, worst_words}
 use Rattle.fx_gain.specs.Lengths.{original_net}
 use Rattle.fx_lines.specs.Filter.{filter_lines}
 use Rattle.fx_lines.specs.Report.{report_lines}
 use Rattle.fx_lines.specs.Verdict.{accepted_lines}
 use Rattle.fx_tool.proofs.CheckCauses.{passing_files}
 use Rattle.fx_tool.proofs.Followed.{long_status, told_answer}
+use Rattle.fx_tool.proofs.Gains.{serving_listed}
 use Rattle.fx_tool.proofs.JobRuns.{large_done}
 use Rattle.fx_tool.proofs.Making.{read_done}
 use Rattle.fx_tool.proofs.TwoPlaced.{Apart, Hold, three_names, two_placed}
@@ -48,7 +51,7 @@ use Rattle.fx_words.proofs.Completeness.{commands_are_whole}
 use Rattle.fx_tool.specs.Gain.{by_serving, gained, gains, gains_text, serving, BytesEnclose, Gains, GainsEnclose}
 use Rattle.fx_tool.specs.Large.{operand_number}
 use Rattle.fx_tool.specs.Made.{made_certificate, made_program}
-use Rattle.fx_tool.specs.Make.{FilterIsServed, IsServed, Makes, Serves, made_of_bytes}
+use Rattle.fx_tool.specs.Make.{FilterIsServed, HoldsOf, IsServed, Makes, Serves, made_of_bytes}
 use Rattle.fx_tool.specs.Placing.{placings, with_placed}
 use Rattle.fx_tool.specs.Judgement.{by_failure, judged, parts_text, passing_lines, reported, told}
 use Rattle.fx_words.specs.Operand.{limit_of}
@@ -321,7 +324,7 @@ is_judged detail files names h =
 judged_sound : (detail : Detail) (files : Files) (names : List (List ℕ)) (answer : Answer)
     (j : IsJudged detail files names answer) →
     FilesAreSound (Some files) j.filter_name j.code_name j.cert_name →
-    IsSound j.filter j.program j.certificate.errors
+    PassesSound j.filter j.program j.certificate
 judged_sound detail files names answer j sound =
     let filter = of_file (get files j.filter_name) j.filter_bytes
     (FilterIsSound (Some files) j.code_name j.cert_name) j.filter_there sound in
@@ -345,7 +348,8 @@ headline law detail files names answer before after j sound grows = record {
       ((code_law j.code_bytes j.program).0 j.code_read);
   certificate_text = there (get files j.cert_name) j.cert_bytes (λ bytes. IsTextOf bytes j.certificate) j.cert_there
       ((law j.cert_bytes j.certificate).0 j.cert_read);
-  sound = judged_sound detail files names answer j sound;
+  passes = (judged_sound detail files names answer j sound).passes;
+  sound = (judged_sound detail files names answer j sound).sound;
   printed = subst (λ (t : List ℕ). GrowsBy t before after) j.text grows;
 }
 
@@ -411,10 +415,14 @@ gain_done files names before after h shown grows =
     (of_file (get files file.name) file.bytes BytesEnclose file.there told) in
     let claim : Gains files file.name before after = record {
       filter = found.filter;
+      moments = found.moments;
       interval = enclosure (original_net found.filter) found.filter found.moments;
       words = worst_words (original_net found.filter) found.filter found.moments;
       described = there (get files file.name) file.bytes (λ bytes. IsFileOf bytes found.filter) file.there
           ((file_law file.bytes found.filter).0 found.read);
+      listed = serving_listed found.filter found.filter.settings.lengths found.moments found.serves;
+      block = λ o i. length_singles found.moments (λ k. worst_word (pos (bound_of found.filter i))
+          (weight (original_net found.filter) found.filter o i (found.moments - (k + 1))));
       encloses = encloses found.moments found.serves;
       printed = subst (λ (t : List ℕ). GrowsBy t before after)
           (ap (λ (a : Answer). a.text) file.same ∙ found.text) grows;
@@ -442,9 +450,10 @@ made law none files files' filter code cert before after apart h served grows le
     let c = read.made.candidate in
     let p = read.made.passing in
     let answer = same ∙ read.made.same in
-    let serves : Serves f (made_program f p) (made_certificate f c.length p) =
+    let holds : HoldsOf f (λ q k. Serves f q k) c p =
     of_value (filter_of_bytes bytes) f IsServed read.read
     (of_file (get files filter) bytes FilterIsServed found served) c p read.made.first in
+    let serves = holds.made in
     let hold = subst (λ (m : Files). Hold files m filter code cert (code_text (made_program f p))
     (text_of (made_certificate f c.length p)))
     (sym (left ∙ ap (λ (a : Answer). with_placed (placings (code ∷ cert ∷ []) a.placed) files) answer))
@@ -458,6 +467,7 @@ made law none files files' filter code cert before after apart h served grows le
       passing = p;
       filter_file = there (get files' filter) bytes (λ bytes. IsFileOf bytes f) first described;
       first = read.made.first;
+      least = holds.least;
       code_text = there (get files' code) _ (λ bytes. Spells bytes (made_program f p)) hold.second_there
           serves.spelled;
       certificate_text = there (get files' cert) _ (λ bytes. IsTextOf bytes (made_certificate f c.length p))

@@ -82,6 +82,7 @@ large_done number before after h served grows =
       candidate = first.candidate;
       passing = first.passing;
       first = first.first;
-      serves = served first.candidate first.passing first.first;
+      least = (served first.candidate first.passing first.first).least;
+      serves = (served first.candidate first.passing first.first).made;
       printed = subst (λ (t : List ℕ). GrowsBy t before after) (ap (λ (a : Answer). a.text) first.same) grows;
     }

@@ -34,7 +34,7 @@ use Rattle.fx_findings.specs.Designs.{no_design_lines}
 use Rattle.fx_findings.specs.Structures.{structure_fault_line}
 use Rattle.fx_tool.specs.Answer.{Answer, WhereDone, says}
 use Rattle.fx_tool.specs.Make.{design_placed, files_of, made_answer, made_of_bytes, of_found, placed_for}
-use Rattle.fx_tool.specs.Make.{IsServed, Serves}
+use Rattle.fx_tool.specs.Make.{HoldsOf, IsServed, Serves}
 use Rattle.fx_tool.specs.declared.status.Status.TheVariants.{Done, NoDesign, Unbuildable}
 use Rattle.fx_tool.specs.Made.{first_width, least_width, made_certificate, made_program, made_width}
 
@@ -166,23 +166,22 @@ found_is f tell m answer each (Err why) h = absurd h
 -- and what holds of it
 pub found_holds : (f : Filter) (P : Code → Certificate → Type 0) (m : Made) (r : Result Progress StructureFault) →
     IsFoundIn f m r → CodeFits m.program → CertificateFits m.cert → P m.program m.cert → (c : Candidate) (p : Passing) →
-    r ≡ Ok (Found c p) → P (made_program f p) (made_certificate f c.length p)
+    r ≡ Ok (Found c p) → HoldsOf f P c p
 found_holds f P m (Ok (AllFailed fails)) h fits fit holds c p e = absurd h
 found_holds f P m (Err why) h fits fit holds c p e = absurd h
 found_holds f P m (Ok (Found d o)) h fits fit holds c p e =
-    let first : P (made_program f o) (made_certificate f d.length o) =
+    let made : P (made_program f o) (made_certificate f d.length o) =
     subst (λ (k : Certificate). P (made_program f o) k) (certificate_is f d.length o m.cert fit h.certificate)
     (subst (λ (q : Code). P q m.cert) (program_is f o m.program fits h.program) holds) in
+    let first : HoldsOf f P d o = record { least = h.least; made = made } in
     let found : Found d o ≡ Found c p = cc in
     found_same d c o p found first
   where
-    found_same : (d c : Candidate) (o p : Passing) → Found d o ≡ Found c p →
-        P (made_program f o) (made_certificate f d.length o) → P (made_program f p) (made_certificate f c.length p)
+    found_same : (d c : Candidate) (o p : Passing) → Found d o ≡ Found c p → HoldsOf f P d o → HoldsOf f P c p
     found_same d c o p e h =
         let candidate : d ≡ c = cc in
         let passing : o ≡ p = cc in
-        subst (λ (c : Candidate). P (made_program f p) (made_certificate f c.length p)) candidate
-        (subst (λ (p : Passing). P (made_program f p) (made_certificate f d.length p)) passing h)
+        subst (λ (c : Candidate). HoldsOf f P c p) candidate (subst (λ (p : Passing). HoldsOf f P d p) passing h)
 
 -- ---- where the answer is 0
 

@@ -14,6 +14,8 @@ use Rattle.fx_cert.specs.Certificate.{Certificate, IsTextOf}
 use Rattle.fx_cert.specs.Lines.{lines_of}
 use Rattle.fx_cert.specs.Reading.{certificate_in}
 use Rattle.fx_cert.specs.declared.fault.CertFault.{CertFault}
+use Rattle.fx_block.specs.Certified.{PassesSound}
+use Rattle.fx_block.specs.Passes.{Passes}
 use Rattle.fx_block.specs.Sound.{IsSound}
 use Rattle.fx_tool.specs.Answer.{Answer}
 use Rattle.fx_tool.specs.Judgement.{told, passing_lines}
@@ -43,9 +45,9 @@ check_plan detail = Reads (λ filter. filter_plan detail (filter_of_bytes filter
 
 -- ---- what holds of the files beside the answer, where that is status 0; of files that are not told nothing is said
 
--- what is read of a certificate's bytes is sound for the filter and the program
+-- what is read of a certificate's bytes meets all inequalities for the filter and the program, and is sound for them
 abbrev pub CertificateIsSound : Filter → Code → List ℕ → Type 0
-CertificateIsSound f p bytes = IsOkAnd (certificate_in (lines_of bytes)) (λ c. IsSound f p c.errors)
+CertificateIsSound f p bytes = IsOkAnd (certificate_in (lines_of bytes)) (λ c. PassesSound f p c)
 
 -- and what is read of the program's
 abbrev pub CodeIsSound : Option Files → List ℕ → Filter → List ℕ → Type 0
@@ -60,10 +62,10 @@ FilesAreSound told filter code cert = Has told filter (FilterIsSound told code c
 
 -- ---- the headline
 
--- The three files are those of a filter, a program and a certificate; for every list of input words within the filter's
--- bounds, of any length, each row of the program ends with the exact sum in its accumulator, each stored word lies in
--- its format, and each output differs from the filter's exact output by at most the certificate's error, which is the
--- one that was printed.
+-- The three files are those of a filter, a program and a certificate, which meet all inequalities; for every list of
+-- input words within the filter's bounds, of any length, each row of the program ends with the exact sum in its
+-- accumulator, each stored word lies in its format, and each output differs from the filter's exact output by at most
+-- the certificate's error, which is the one that was printed.
 pub record Headline (detail : Detail) (files : Files) (filter_name code_name certificate_name : List ℕ)
     (before after : Option (List ℕ)) : Type 0 where
   pub filter : Filter
@@ -72,5 +74,6 @@ pub record Headline (detail : Detail) (files : Files) (filter_name code_name cer
   pub filter_file : IsSomeAnd (get files filter_name) (λ bytes. IsFileOf bytes filter)
   pub code_text : IsSomeAnd (get files code_name) (λ bytes. Spells bytes program)
   pub certificate_text : IsSomeAnd (get files certificate_name) (λ bytes. IsTextOf bytes certificate)
+  pub passes : Passes filter program certificate
   pub sound : IsSound filter program certificate.errors
   pub printed : GrowsBy (passing_lines detail filter program certificate) before after

@@ -89,3 +89,10 @@ PassingIsAccepted =
     (words : List (List ℕ)) (files : Files) (filter code cert : List ℕ) (f : Filter) (p : Code) (c : Certificate) →
     HasAll words files filter code cert f p c → Passes f p c →
     answer_of words files ≡ says Done (accepted_lines c.errors)
+
+-- 0, exactly where all hold
+abbrev pub AcceptedExactly : Type 0
+AcceptedExactly =
+    (words : List (List ℕ)) (files : Files) (filter code cert : List ℕ) (f : Filter) (p : Code) (c : Certificate) →
+    HasAll words files filter code cert f p c →
+    (status_of words files ≡ Done) ↔ Passes f p c

@@ -1,5 +1,5 @@
 -- Of `gain`: its plan, and what status 0 claims.
-use Rattle.std.specs.Prelude.{◌≡◌, ℕ, ◌<◌, ℤ, List, [], ◌++◌, codes, length, map, Option, Some, None, Result, Ok, Err}
+use Rattle.std.specs.Prelude.{◌≡◌, ℕ, ◌<◌, ℤ, List, [], ◌++◌, codes, length, map, Option, Some, None, Result, Ok, Err, Contains}
 use Rattle.std.specs.Prelude.{IsOkAnd, IsSomeAnd}
 use Rattle.std.specs.FinMap.{get}
 use Rattle.std.specs.List.{flat_map}
@@ -85,12 +85,15 @@ FileEncloses told name = Has told name BytesEnclose
 
 -- The file is that of a filter, and for each output and input an interval and words were put: on no admissible list of
 -- words of that input alone, of any length, is the exact output ever above the high end in magnitude, and on these
--- words it is at least the low end in the last moment.
+-- words, as many as one of the filter's lengths says, it is at least the low end in the last moment.
 pub record Gains (files : Files) (name : List ℕ) (before after : Option (List ℕ)) : Type 0 where
   pub filter : Filter
+  pub moments : ℕ
   pub interval : ℕ → ℕ → Interval
   pub words : ℕ → ℕ → List ℤ
   pub described : IsSomeAnd (get files name) (λ bytes. IsFileOf bytes filter)
+  pub listed : Contains filter.settings.lengths moments
+  pub block : (o i : ℕ) → length (words o i) ≡ moments
   pub encloses : (o i : ℕ) → o < length filter.outputs → i < length filter.inputs →
       EnclosesPeak filter o i (interval o i) (words o i)
   pub printed : GrowsBy (all_lines (length filter.outputs) (length filter.inputs) interval words) before after

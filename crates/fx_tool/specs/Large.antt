@@ -6,7 +6,7 @@ use Rattle.fx_cert.specs.Certificate.{Certificate}
 use Rattle.fx_files.specs.Filter.{Filter}
 use Rattle.fx_block.specs.Certified.{PassesSound}
 use Rattle.fx_make.specs.Candidates.{Candidate, Passing}
-use Rattle.fx_make.specs.Made.{found}
+use Rattle.fx_make.specs.Made.{HasLeastBounds, found}
 use Rattle.fx_make.specs.Search.Progress.{Found}
 use Rattle.fx_large.specs.Job.{job_filter, job_summary}
 use Rattle.fx_large.specs.Sections.{samples_state, sections_of}
@@ -59,13 +59,14 @@ NumberIsServed number = OfFirst (number_filter number) (λ p c. PassesSound (num
 
 -- ---- status 0
 
--- What is made of the first candidate that passes for the number's filter meets all inequalities, so that its program
--- is sound for the filter with the certificate's errors; and its design and the summary of its run on the number's
+-- What is made of the first candidate that passes for the number's filter, with the least bounds that serve, meets all
+-- inequalities, so that its program is sound for the filter with the certificate's errors; and its design and the summary of its run on the number's
 -- samples were put.
 pub record Larges (number : ℕ) (before after : Option (List ℕ)) : Type 0 where
   pub candidate : Candidate
   pub passing : Passing
   pub first : found (number_filter number) ≡ Ok (Found candidate passing)
+  pub least : HasLeastBounds (number_filter number) candidate passing
   pub serves : PassesSound (number_filter number) (made_program (number_filter number) passing)
       (made_certificate (number_filter number) candidate.length passing)
   pub printed : GrowsBy (first_lines number candidate passing) before after

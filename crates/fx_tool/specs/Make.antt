@@ -15,7 +15,7 @@ use Rattle.fx_block.specs.Certified.{PassesSound}
 use Rattle.fx_block.specs.Passes.{Passes}
 use Rattle.fx_block.specs.Sound.{IsSound}
 use Rattle.fx_make.specs.Candidates.{Candidate, Passing}
-use Rattle.fx_make.specs.Made.{found}
+use Rattle.fx_make.specs.Made.{HasLeastBounds, found}
 use Rattle.fx_make.specs.Search.{Progress}
 use Rattle.fx_make.specs.Search.Progress.{AllFailed, Found}
 use Rattle.fx_make.specs.declared.answer.Made.{Made}
@@ -85,10 +85,14 @@ pub record Serves (f : Filter) (p : Code) (c : Certificate) : Type 0 where
   pub short : AreShort p c
   pub judged : PassesSound f p c
 
--- P holds of what is made of the first candidate that passes
+-- the bounds of a candidate that passes are the least that serve at its length, and P holds of what is made of it
+pub record HoldsOf (f : Filter) (P : Code → Certificate → Type 0) (c : Candidate) (p : Passing) : Type 0 where
+  pub least : HasLeastBounds f c p
+  pub made : P (made_program f p) (made_certificate f c.length p)
+
+-- so it is of the first candidate that passes
 abbrev pub OfFirst : Filter → (Code → Certificate → Type 0) → Type 0
-OfFirst f P =
-    (c : Candidate) (p : Passing) → found f ≡ Ok (Found c p) → P (made_program f p) (made_certificate f c.length p)
+OfFirst f P = (c : Candidate) (p : Passing) → found f ≡ Ok (Found c p) → HoldsOf f P c p
 
 abbrev pub IsServed : Filter → Type 0
 IsServed f = OfFirst f (λ p c. Serves f p c)
@@ -100,7 +104,7 @@ FilterIsServed bytes = IsOkAnd (filter_of_bytes bytes) IsServed
 -- ---- status 0
 
 -- The three files, as the run leaves them, are those of a filter and of the program and the certificate that are made
--- of the first candidate that passes for it: all inequalities hold, the program is sound for the filter with the
+-- of the first candidate that passes for it: its bounds are the least that serve, all inequalities hold, the program is sound for the filter with the
 -- certificate's errors, `check` of the files ends with status 0, and the design and its errors were put.
 pub record Makes (files : Files) (filter_name code_name certificate_name : List ℕ)
     (before after : Option (List ℕ)) : Type 0 where
@@ -109,6 +113,7 @@ pub record Makes (files : Files) (filter_name code_name certificate_name : List 
   pub passing : Passing
   pub filter_file : IsSomeAnd (get files filter_name) (λ bytes. IsFileOf bytes filter)
   pub first : found filter ≡ Ok (Found candidate passing)
+  pub least : HasLeastBounds filter candidate passing
   pub code_text : IsSomeAnd (get files code_name) (λ bytes. Spells bytes (made_program filter passing))
   pub certificate_text : IsSomeAnd (get files certificate_name) (λ bytes.
       IsTextOf bytes (made_certificate filter candidate.length passing))

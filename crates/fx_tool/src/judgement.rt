@@ -1,6 +1,6 @@
 //! What is told of a judgement.
 ghost use Rattle.std.specs.Prelude.{◌≡◌, All, IfOk, IfSome, None};
-ghost use Rattle.fx_block.specs.Sound.{IsSound};
+ghost use Rattle.fx_block.specs.Certified.{PassesSound};
 ghost use Rattle.fx_check.specs.Verdict.{failure_of};
 ghost use Rattle.fx_code.specs.Code.{IsWhole};
 ghost use Rattle.fx_error.specs.PartsOf.{PartsFit};
@@ -49,7 +49,7 @@ fn judged(
 ) -> Result<Ending, AllocError>
     requires { IsWhole program.now }
     ensures answer { IfOk result (λ e. judged filter.now program.now cert.now ≡ e) }
-    ensures sound { WhereDone result (IsSound filter.now program.now cert.now.errors) }
+    ensures sound { WhereDone result (PassesSound filter.now program.now cert.now) }
 {
     none_fails_where_all_hold();
     inequalities_make_sound(filter, program, cert);
@@ -83,7 +83,7 @@ fn reported(
 ) -> Result<Ending, AllocError>
     requires { IsWhole program.now }
     ensures answer { IfOk result (λ e. reported filter.now program.now cert.now ≡ e) }
-    ensures sound { WhereDone result (IsSound filter.now program.now cert.now.errors) }
+    ensures sound { WhereDone result (PassesSound filter.now program.now cert.now) }
 {
     none_fails_where_all_hold();
     inequalities_make_sound(filter, program, cert);
@@ -92,8 +92,9 @@ fn reported(
     verdict_ending(alloc, cert, report.verdict)?.led_by(lines)
 }
 
-/// What is told of the judgement of a filter, a whole program and a certificate. Where that ends with `Done`, the
-/// program is sound for the filter, with the certificate's errors. Its error is want of memory.
+/// What is told of the judgement of a filter, a whole program and a certificate. Where that ends with `Done`, all
+/// inequalities hold, and the program is sound for the filter, with the certificate's errors. Its error is want of
+/// memory.
 pub fn told(
     alloc: Global,
     detail: Detail,
@@ -103,7 +104,7 @@ pub fn told(
 ) -> Result<Ending, AllocError>
     requires { IsWhole program.now }
     ensures answer { IfOk result (λ e. told detail filter.now program.now cert.now ≡ e) }
-    ensures sound { WhereDone result (IsSound filter.now program.now cert.now.errors) }
+    ensures sound { WhereDone result (PassesSound filter.now program.now cert.now) }
 {
     match detail {
         Detail::Brief => judged(alloc, filter, program, cert),

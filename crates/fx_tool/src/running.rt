@@ -4,6 +4,7 @@ ghost use Rattle.fx_words.specs.Command.{allows, named, operand_words, operands_
 ghost use Rattle.fx_words.specs.Words.{IsWhole};
 ghost use Rattle.fx_tool.specs.Answer.{WhereDone};
 ghost use Rattle.fx_tool.specs.CheckCauses.{
+  AcceptedExactly,
   BadCertificateExactly,
   BadCodeExactly,
   BadFilterExactly,
@@ -161,13 +162,14 @@ pub fn run<S: Shelf, K: Sink>(alloc: Global, words: &[String], shelf: &mut S, ou
 
 /// A law with nothing to run: which status the answer of `check` has, where the files before are there and have at most
 /// `LONGEST_FILE` bytes. A run ends with that, or with 8, 9 or 12. 3 comes exactly where the first file is that of no filter, 4 exactly where the second spells
-/// no program, 5 exactly where the third is the text of no certificate, 1 exactly where an inequality fails, and where
-/// all hold, 0 with the lines of the certificate's errors.
+/// no program, 5 exactly where the third is the text of no certificate, 1 exactly where an inequality fails, and 0
+/// exactly where all hold, with the lines of the certificate's errors.
 pub fn check_ends_by_its_files()
     ensures bad_filter { BadFilterExactly }
     ensures bad_code { BadCodeExactly }
     ensures bad_certificate { BadCertificateExactly }
     ensures refused { RefusedExactly }
+    ensures done { AcceptedExactly }
     ensures accepted { PassingIsAccepted }
 {
     certificate_is_read_exactly();

@@ -9,8 +9,6 @@ mod limits;
 mod series;
 mod sums;
 mod target_range;
-#[cfg(test)]
-mod tests;
 mod totals;
 
 pub use all_time::bounds_hold_for_all_time;

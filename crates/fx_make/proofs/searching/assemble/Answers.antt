@@ -23,8 +23,10 @@ returns c =
       length = refl;
       program = c.in_ok-program.ensures.made;
       certificate = c.in_ok-cert.ensures;
+      least = c.passing_candidates_pass.ensures.least c.args.f.now c.args.d.now.rows c.args.moments
+          (bound_in c.args.x.now) some c.requires.passing.passed;
       whole = c.in_ok-program.ensures.whole;
-      passes = c.passing_candidates_pass.ensures c.args.f.now c.args.d.now.rows c.args.moments
+      passes = c.passing_candidates_pass.ensures.pass c.args.f.now c.args.d.now.rows c.args.moments
           (bound_in c.args.x.now) c.in_ok-program.program c.in_ok-cert.cert some c.requires.passing.passed
           c.programs_fit.ensures c.in_ok-program.ensures.made c.in_ok-cert.ensures;
     }

@@ -1,4 +1,4 @@
-use Rattle.fx_tool.proofs.CheckCauses.{bad_filter, bad_code, bad_certificate, passing, refused}
+use Rattle.fx_tool.proofs.CheckCauses.{accepted, bad_filter, bad_code, bad_certificate, passing, refused}
 use Rattle.fx_tool.proofs.running.check_ends_by_its_files.Goals as goal
 
 pub returns-clause-bad_filter : goal.returns-clause-bad_filter
@@ -15,3 +15,6 @@ returns-clause-refused c = refused c.certificate_is_read_exactly.ensures c.none_
 
 pub returns-clause-accepted : goal.returns-clause-accepted
 returns-clause-accepted c = passing c.certificate_is_read_exactly.ensures c.none_fails_where_all_hold.ensures
+
+pub returns-clause-done : goal.returns-clause-done
+returns-clause-done c = accepted c.certificate_is_read_exactly.ensures c.none_fails_where_all_hold.ensures
