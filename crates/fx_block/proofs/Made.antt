@@ -1,6 +1,6 @@
 -- What is made of a candidate that passes passes.
 use Rattle.std.proofs.Common.{◌≡◌, ℕ, zero, suc, ◌+◌, ◌-◌, ◌*◌, ◌^◌, ◌<◌, ◌≤◌, arith, refl, ap, ap₂, sym, ◌∙◌, subst}
-use Rattle.std.proofs.Common.{inl, inr, cond, min, Bool, true, false, List, length, slice_index_or, [], ◌∷◌, map}
+use Rattle.std.proofs.Common.{inl, inr, cond, min, Bool, true, false, List, length}
 use Rattle.std.proofs.Math.IntN.{ℤ, pos, ◌+ℤ◌, ◌*ℤ◌}
 use Rattle.std.specs.Int.Signed.{◌≤ℤ◌}
 use Rattle.std.specs.Prelude.{Option, Some, None, int_le}
@@ -16,7 +16,8 @@ use Rattle.fx_files.specs.Filter.{Filter}
 use Rattle.fx_eqs.specs.Expanded.{expanded, row_place}
 use Rattle.fx_net.specs.Net.{empty_net}
 use Rattle.fx_net.specs.Rows.{put_rows}
-use Rattle.fx_code.specs.Code.{BareRow, Code, Row as CodeRow, bare, no_row, row_at}
+use Rattle.fx_code.proofs.Placing.{bare_is}
+use Rattle.fx_code.specs.Code.{BareRow, Code, bare, row_at}
 use Rattle.fx_code.specs.Fits.{CodeFits, RowFits}
 use Rattle.fx_code.specs.NetRows.{bare_at, bare_rows, put_bare_rows}
 use Rattle.fx_cert.specs.Certificate.{Certificate}
@@ -127,13 +128,6 @@ module _ (filter : Filter) (rows : List BareRow) (moments : ℕ) (x : ℕ → �
       by (Some found) f g = cc
 
 -- ---- words and accumulators of a row within its cap
-
--- each row without its width, those past the rows too
-bare_is : (rows : List CodeRow) (i : ℕ) → bare_at (map bare rows) i
-    ≡ (slice_index_or rows i no_row).own
-bare_is [] i = refl
-bare_is (row ∷ rows) zero = refl
-bare_is (row ∷ rows) (suc i) = bare_is rows i
 
 -- a sum whose floor by a shift is at most x fits where x is below the shifted limit
 sum_fits : (x shift bits : ℕ) → shift < bits → x ≤ 2 ^ (bits - 1 - shift) - 1 →

@@ -39,7 +39,8 @@ row_read a p same kept i h r e =
 -- the fields after a row was pushed
 pub row_pushed : (a : Inside) (p : Code) (width shift : ℕ) (mode : Mode) (terms : List CodeTerm)
     (copied : Vec CodeTerm Global) (rows : Vec ProgramRow Global) → code_of a ≡ p → IsKept a →
-    row_fault p (record { width = width; own = record { shift = shift; mode = mode; terms = terms } }) ≡ None → copied.items ≡ terms →
+    row_fault p (record { width = width; own = record { shift = shift; mode = mode; terms = terms } }) ≡ None →
+    copied.items ≡ terms →
     rows.items ≡ a.rows.items ++ record { width = width; shift = shift; mode = mode; terms = copied } ∷ [] →
     IsKept (record a { rows = rows; terms = a.terms + length terms })
 row_pushed a p width shift mode terms copied rows same kept e copy pushed =

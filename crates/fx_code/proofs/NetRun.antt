@@ -128,7 +128,8 @@ module _ (p : Code) (net : Net) (at q : ℕ) (u y z : ℕ → ℕ → ℤ)
       get_or-map net_row (bare_rows p) i no_bare_row _ (rw (length-map p.rows bare) row)
       ∙ ap net_row (bare_is p.rows i)
 
-  has_terms : (i : ℕ) → i < length p.rows → HasTerms net at i (map (kept_term (row_at p i).own.shift) (row_at p i).own.terms)
+  has_terms : (i : ℕ) → i < length p.rows →
+      HasTerms net at i (map (kept_term (row_at p i).own.shift) (row_at p i).own.terms)
   has_terms i row =
       let shift : ℕ = (row_at p i).own.shift in
       let ts : List CodeTerm = (row_at p i).own.terms in

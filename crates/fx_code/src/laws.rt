@@ -73,9 +73,9 @@ pub fn joint_nets_have_a_denominator()
 
 /// A law with nothing to run: in each net that holds the rows of a whole program, the words are a perturbed run of
 /// these rows, over each common denominator of the net: what an exact row stores is off by at most half a step where
-/// it rounds to the nearest and by less than one where it floors, and what one without a right shift stores is just what
-/// it reads. So it is with any numbers that are floored by the
-/// shift as words are, without wrapping. The other rows of the net may have any values.
+/// it rounds to the nearest and by less than one where it floors, and what one without a right shift stores is just
+/// what it reads. So it is with any numbers that are floored by the shift as words are, without wrapping. The other
+/// rows of the net may have any values.
 pub fn words_are_a_run(program: &Program)
     ensures numbers { FlooredRowsRun program.now }
     ensures words { WordsRun program.now }

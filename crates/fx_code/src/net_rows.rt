@@ -73,9 +73,8 @@ impl Program {
 
     /// Writes the rows of a whole program into a net, from row `at` on: what a row takes of a source is the term's
     /// coefficient, shifted to the left, over 2 to the power of the row's right shift. A row's class is 0 where its
-    /// right shift is 0, else 1 where it rounds to the nearest, and 2 where it floors: it is off by at most so many half
-    /// steps. The rows have to fit into the net, and to
-    /// be empty there; the other rows stay.
+    /// right shift is 0, else 1 where it rounds to the nearest, and 2 where it floors: it is off by at most so many
+    /// half steps. The rows have to fit into the net, and to be empty there; the other rows stay.
     pub fn put_net<const N: usize>(&self, net: &mut Net<N>, at: usize)
         requires whole { IsWhole self.now }
         requires room { at + length self.now.rows ≤ N }

@@ -1,3 +1,4 @@
+ghost use Rattle.fx_eqs.specs.declared.mode.Mode.{Mode};
 ghost use Rattle.fx_code.specs.declared.term.CodeTerm.{CodeTerm};
 ghost use Rattle.std.specs.Prelude.{
   map,
@@ -102,15 +103,12 @@ impl Program {
         })
     }
 
-    // The first fault of a row that is to be added.
-    fn row_fault(
-        &self,
-        width: u8,
-        shift: u8,
-        mode: Mode,
-        terms: &[CodeTerm],
-    ) -> Option<ProgramFault>
-        ensures { result ≡ row_fault self.now (record { width = width; own = record { shift = shift; mode = mode; terms = terms.now } }) }
+    // The first fault of a row that is to be added, in either mode.
+    fn row_fault(&self, width: u8, shift: u8, terms: &[CodeTerm]) -> Option<ProgramFault>
+        ensures { (mode : Mode) → result ≡ row_fault self.now (record {
+          width = width;
+          own = record { shift = shift; mode = mode; terms = terms.now };
+        }) }
     {
         if self.rows.len() >= CODE_ROWS {
             return Some(ProgramFault::Limit(LimitOf::Rows, self.rows.len() as i128 + 1));
@@ -132,8 +130,8 @@ impl Program {
     }
 
     /// Adds a row behind the others: the bits of its word, its right shift, how that drops the low places, and its
-    /// terms. Its error is the first fault, and `NoMemory` only where there is none;
-    /// a refused row leaves the program unchanged.
+    /// terms. Its error is the first fault, and `NoMemory` only where there is none; a refused row leaves the program
+    /// unchanged.
     pub fn add_row(
         &mut self,
         width: u8,
@@ -143,13 +141,18 @@ impl Program {
     ) -> Result<(), ProgramFault>
         ensures ok { OnOk result (self.new ≡ record self.old {
           rows =
-              self.old.rows ++ record { width = width; own = record { shift = shift; mode = mode; terms = terms.now } } ∷ [];
+              self.old.rows ++ record {
+                width = width;
+                own = record { shift = shift; mode = mode; terms = terms.now };
+              } ∷ [];
         }) }
-        ensures fault { row_fault self.old (record { width = width; own = record { shift = shift; mode = mode; terms = terms.now } })
-            ≡ fault_told is_memory result }
+        ensures fault { row_fault self.old (record {
+          width = width;
+          own = record { shift = shift; mode = mode; terms = terms.now };
+        }) ≡ fault_told is_memory result }
         ensures err { OnErr result (self.new ≡ self.old) }
     {
-        if let Some(fault) = self.row_fault(width, shift, mode, terms) {
+        if let Some(fault) = self.row_fault(width, shift, terms) {
             return Err(fault);
         }
         let count = terms.len();

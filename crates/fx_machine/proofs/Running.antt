@@ -224,7 +224,8 @@ can_run p words i f w h =
     source_within p words i t.from w h s) ts sources in
     let each : All (λ (t : CodeTerm). (unsigned_abs (weight t) < 2 ^ 62) × (limit_of p t.from ≤ 2 ^ 31)) ts =
     λ k d l. ((row.terms k d l).product, limit_small p i _ f h (sources k d l)) in
-    let constant : constant_of (row_at p i).own ≤ 2 ^ 62 = constant_small (row_at p i).own.mode (row_at p i).own.shift row.shift_high in
+    let constant : constant_of (row_at p i).own ≤ 2 ^ 62 =
+    constant_small (row_at p i).own.mode (row_at p i).own.shift row.shift_high in
     let bound = greatest_small p ts each in
     record {
       accumulator_low = f.accumulator_low;
