@@ -1,5 +1,5 @@
 -- The net of a candidate's rows and a filter's expanded rows, with empty rows behind.
-use Rattle.std.proofs.Common.{ℕ, ◌≤◌, [], length, map, refl, sym, subst}
+use Rattle.std.proofs.Common.{ℕ, ◌≤◌, length, map, refl, sym, subst}
 use Rattle.std.proofs.lemmas.List.{get_or_default}
 use Rattle.std.proofs.lemmas.List.Elements.{All-map}
 use Rattle.fx_eqs.specs.Fits.{EquationsFit}
