@@ -2,8 +2,9 @@
 """Draws what a code of fixif does: its impulse and step response beside those of the filter, their difference, and the
 frequency response of both.
 
-The filter's responses to words are exact: they are computed from the equations that `fixif show` puts, in decimals of any
-length. The code's are what `fixif simulate` puts. The band of the difference is the error that `fixif check` has accepted.
+The filter's responses to words are exact: they are computed from the equations that `fixif show` puts, in decimals of
+any length. The code's are what `fixif simulate` puts. The band of the difference is the error that `fixif check` has
+accepted.
 """
 
 from __future__ import annotations

@@ -64,8 +64,8 @@ class Program(NamedTuple):
     def standing(self) -> str:
         """`proved, TOOLCHAIN`, or `unproved: REASON`."""
         try:
-            ran = subprocess.run([str(TOP / "tools" / "proved"), self.path], stdin=subprocess.DEVNULL, stdout=subprocess.PIPE,
-                                 text=True, check=False)
+            ran = subprocess.run([str(TOP / "tools" / "proved"), self.path], stdin=subprocess.DEVNULL,
+                                 stdout=subprocess.PIPE, text=True, check=False)
         except OSError as fault:
             return f"unproved: tools/proved cannot be run: {fault.strerror}"
         return ran.stdout.strip() or "unproved: tools/proved said nothing"
