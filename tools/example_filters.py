@@ -6,6 +6,7 @@ tools/example_filters.py FOLDER writes the ten files into a folder. What `show` 
 
 from __future__ import annotations
 
+import argparse
 import sys
 from decimal import Context, Decimal, localcontext
 from pathlib import Path
@@ -291,8 +292,19 @@ def text_of(example: Example) -> str:
     return filter_file.file_text(example.lists, options)
 
 
-if __name__ == "__main__":
-    if len(sys.argv) != 2:
-        sys.exit("usage: example_filters.py FOLDER")
+def main(words: list) -> int:
+    parser = argparse.ArgumentParser(prog="example_filters.py", description=__doc__, allow_abbrev=False,
+                                     formatter_class=argparse.RawDescriptionHelpFormatter)
+    parser.add_argument("folder", metavar="FOLDER", help="where the filter files are placed")
+    folder = Path(parser.parse_args(words).folder)
     for made in examples():
-        Path(sys.argv[1], f"{made.name}.toml").write_text(text_of(made), encoding="utf-8")
+        try:
+            (folder / f"{made.name}.toml").write_text(text_of(made), encoding="utf-8")
+        except OSError as fault:
+            print(f"example_filters: '{folder / made.name}.toml' cannot be written: {fault.strerror}", file=sys.stderr)
+            return 1
+    return 0
+
+
+if __name__ == "__main__":
+    sys.exit(main(sys.argv[1:]))

@@ -2,8 +2,9 @@
 """Draws what a code of fixif does: its impulse and step response beside those of the filter, their difference, and the
 frequency response of both.
 
-The filter's responses to words are exact: they are computed from the equations that `fixif show` puts, in decimals of any
-length. The code's are what `fixif simulate` puts. The band of the difference is the error that `fixif check` has accepted.
+The filter's responses to words are exact: they are computed from the equations that `fixif show` puts, in decimals of
+any length. The code's are what `fixif simulate` puts. The band of the difference is the error that `fixif check` has
+accepted.
 """
 
 from __future__ import annotations
@@ -26,7 +27,7 @@ LONGEST = 4096
 # One moment is drawn beyond the scale where it is so many times all others.
 SPIKE = 8
 # The frequencies of the frequency response, as parts of the sampling rate.
-LOWEST, HIGHEST, FREQUENCIES, DOT_EACH = 1e-4, 0.5, 601, 12
+LOWEST, HIGHEST, FREQUENCIES, DOT_EACH = 1e-4, 0.5, 601, 5
 # The scale of the frequency response ends so many dB below the level of the error.
 BELOW_ERROR = 20
 
@@ -271,10 +272,10 @@ def response_panel(one: Response, left: int) -> list[str]:
     spike = spike_of(exact)
     scaled = [value for values in [exact, code] for moment, value in enumerate(values) if moment != spike] + [0.0]
     panel = Panel(left, 80, (0, max(len(code) - 1, 1)), min(scaled), max(scaled))
-    body = panel.frame(one.name, "moment", "output steps", moment_marks(len(code)))
+    title = one.name
     if spike is not None:
-        said = f"beyond this scale: moment {spike}, filter {exact[spike]:.1f}, code {code[spike]:g}"
-        body.append(f'<text x="{left + panel.width - 8}" y="98" text-anchor="end">{said}</text>')
+        title += f"; beyond this scale at moment {spike}: {exact[spike]:.1f}, code {code[spike]:g}"
+    body = panel.frame(title, "moment", "output steps", moment_marks(len(code)))
     return [*body, panel.line(list(enumerate(exact))), *panel.dots(list(enumerate(code)))]
 
 

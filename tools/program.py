@@ -63,11 +63,9 @@ class Program(NamedTuple):
 
     def standing(self) -> str:
         """`proved, TOOLCHAIN`, or `unproved: REASON`."""
-        if Path(self.path) != PROGRAM:
-            return f"unproved: {self.path} is not the program of this repository"
         try:
-            ran = subprocess.run([str(TOP / "tools" / "proved")], stdin=subprocess.DEVNULL, stdout=subprocess.PIPE,
-                                 text=True, check=False)
+            ran = subprocess.run([str(TOP / "tools" / "proved"), self.path], stdin=subprocess.DEVNULL,
+                                 stdout=subprocess.PIPE, text=True, check=False)
         except OSError as fault:
             return f"unproved: tools/proved cannot be run: {fault.strerror}"
         return ran.stdout.strip() or "unproved: tools/proved said nothing"

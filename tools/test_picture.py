@@ -166,7 +166,7 @@ class Pictures(unittest.TestCase):
         program.write_text(PROGRAM.format(python=sys.executable), encoding="utf-8")
         program.chmod(0o755)
         (self.folder / "a.c").write_text(SMOOTHER_CODE, encoding="utf-8")
-        self.unproved = f"picture: unproved: {program} is not the program of this repository\n"
+        self.unproved = f"picture: unproved: {program} is no program of this repository\n"
         self.words = ["a.toml", str(self.folder / "a.c"), "a.txt", "--program", str(program), "--moments", "8"]
 
     def say(self, **texts: str):
