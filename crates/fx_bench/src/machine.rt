@@ -8,6 +8,7 @@ ghost use Rattle.fx_bench.specs.Runs.{drawn, low_bits, next_seed, put_word, word
 use crate::checksum::mixed;
 use crate::per_call::PerCall;
 use fx_code::{CodeTerm, Program, ProgramFault, Read};
+use fx_eqs::Mode;
 use fx_machine::{Machine, Marks};
 use std::alloc::{AllocError, Global};
 use std::io;
@@ -38,12 +39,12 @@ fn second_order(alloc: Global, accumulator: u8) -> Result<Program, ProgramFault>
         term(-336253, Read::Old(4), 1),
         term(21059, Read::In(0), 4),
     ];
-    program.add_row(20, 20, &terms)?;
-    program.add_row(20, 0, &[term(1, Read::In(0), 4)])?;
-    program.add_row(20, 0, &[term(1, Read::Old(1), 0)])?;
-    program.add_row(20, 0, &[term(1, Read::Now(0), 0)])?;
-    program.add_row(20, 0, &[term(1, Read::Old(3), 0)])?;
-    program.add_row(16, 4, &[term(1, Read::Now(0), 0)])?;
+    program.add_row(20, 20, Mode::Nearest, &terms)?;
+    program.add_row(20, 0, Mode::Nearest, &[term(1, Read::In(0), 4)])?;
+    program.add_row(20, 0, Mode::Nearest, &[term(1, Read::Old(1), 0)])?;
+    program.add_row(20, 0, Mode::Nearest, &[term(1, Read::Now(0), 0)])?;
+    program.add_row(20, 0, Mode::Nearest, &[term(1, Read::Old(3), 0)])?;
+    program.add_row(16, 4, Mode::Nearest, &[term(1, Read::Now(0), 0)])?;
     program.add_output(5)?;
     Ok(program)
 }
@@ -54,9 +55,9 @@ fn detour(alloc: Global) -> Result<Program, ProgramFault>
     ensures output { IfOk result (λ p. length p.outputs ≡ 1) }
 {
     let mut program = Program::start(alloc, 16, &[16])?;
-    program.add_row(16, 0, &[term(1, Read::In(0), 0)])?;
+    program.add_row(16, 0, Mode::Nearest, &[term(1, Read::In(0), 0)])?;
     let terms = [term(200, Read::In(0), 0), term(-199, Read::Now(0), 0)];
-    program.add_row(16, 0, &terms)?;
+    program.add_row(16, 0, Mode::Nearest, &terms)?;
     program.add_output(1)?;
     Ok(program)
 }
