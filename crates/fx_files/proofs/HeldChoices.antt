@@ -76,12 +76,14 @@ structure_read text f h = elim (cases_Bool (bytes_eq text (codes "df1"))) [
     | inr n2 ↦ elim (cases_Bool (bytes_eq text (codes "df2t"))) [
       | inl is ↦ spelled_so structure_text text structure.Df2t f (rw (n1, n2, is) at h) (named text (codes "df2t") is)
       | inr n3 ↦ elim (cases_Bool (bytes_eq text (codes "fir"))) [
-        | inl is ↦ spelled_so structure_text text structure.Fir f (rw (n1, n2, n3, is) at h) (named text (codes "fir") is)
+        | inl is ↦ spelled_so structure_text text structure.Fir f (rw (n1, n2, n3, is) at h)
+            (named text (codes "fir") is)
         | inr n4 ↦ elim (cases_Bool (bytes_eq text (codes "lattice"))) [
           | inl is ↦ spelled_so structure_text text structure.Lattice f (rw (n1, n2, n3, n4, is) at h)
               (named text (codes "lattice") is)
           | inr n5 ↦ elim (cases_Bool (bytes_eq text (codes "ss"))) [
-            | inl is ↦ spelled_so structure_text text structure.Ss f (rw (n1, n2, n3, n4, n5, is) at h) (named text (codes "ss") is)
+            | inl is ↦ spelled_so structure_text text structure.Ss f (rw (n1, n2, n3, n4, n5, is) at h)
+                (named text (codes "ss") is)
             | inr n6 ↦ absurd (let e : ◌≡◌ {A = Option Structure} None (Some f) =
                 rw (n1, n2, n3, n4, n5, n6) at h in cc)
           ]
@@ -209,7 +211,8 @@ settings_read form t s h =
           choice_read key.Structure structure_text structure_word (default_structure form)
           (value_at key.Structure t) structure structure_read named_so;
       rounding =
-          choice_read key.Rounding mode_text mode_word mode.Nearest (value_at key.Rounding t) rounding mode_read rounded;
+          choice_read key.Rounding mode_text mode_word mode.Nearest
+          (value_at key.Rounding t) rounding mode_read rounded;
       accumulator = a.0;
       is_listed = a.1;
       word = natural_read key.Word t word (record { le = tt }) wide;
