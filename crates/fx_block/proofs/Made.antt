@@ -145,15 +145,15 @@ sum_fits x shift bits l h =
 
 module _ (filter : Filter) (rows : List BareRow) (moments : ℕ) (x : ℕ → ℕ) (of : PassesTrial filter rows moments x)
   where
-  kept_rows : candidate_count filter rows ≤ (candidate_net filter rows).rows
-  unfolding put_rows
-  kept_rows = omega arith
+    kept_rows : candidate_count filter rows ≤ (candidate_net filter rows).rows
+    unfolding put_rows
+    kept_rows = omega arith
 
-  least_bounds : RestIsLeast → 0 < moments → AreLeastBounds (candidate_net filter rows) (candidate_count filter rows)
-      (λ j. moments) (bound_of filter) x
-  least_bounds law some =
-      law (candidate_net filter rows) (candidate_count filter rows) (λ j. moments) (bound_of filter)
-      (cap_of filter rows) x kept_rows (λ j l. some) of.rests
+    least_bounds : RestIsLeast → 0 < moments → AreLeastBounds (candidate_net filter rows) (candidate_count filter rows)
+        (λ j. moments) (bound_of filter) x
+    least_bounds law some =
+        law (candidate_net filter rows) (candidate_count filter rows) (λ j. moments) (bound_of filter)
+        (cap_of filter rows) x kept_rows (λ j l. some) of.rests
 
 pub bounds_are_least : RestIsLeast → PassedBoundsAreLeast
 bounds_are_least law filter rows moments x some passes =
