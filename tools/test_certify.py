@@ -1,5 +1,5 @@
 #!/usr/bin/env python3
-"""Tests of certify: the search over bounds that can be had by hand, and, where the program was built, hand-written code."""
+"""Tests of certify: the search over bounds that can be had by hand, and, where the program was built, code by hand."""
 
 from __future__ import annotations
 

@@ -1,5 +1,5 @@
 #!/usr/bin/env python3
-"""Tests of design: the search over errors by a formula, and, where the program was built, six designs from scipy's numbers.
+"""Tests of design: the search over errors by a formula, and, where the program was built, six designs.
 
 The numbers of scipy_designs.json are those that scipy 1.10.1 gave for the calls that stand beside them.
 """
@@ -114,8 +114,8 @@ class Headroom(unittest.TestCase):
     def test_a_bound_that_was_given(self):
         with self.assertRaises(design.NoDesign) as raised:
             self.settle(filter_of("1", 30000), 74541, bound=[30000])
-        self.assertEqual(str(raised.exception), "output 0 can reach 74541 steps; its word takes 32767: a bound of at most "
-                         "13187, or 18 bits, or a last place of 2^2")
+        self.assertEqual(str(raised.exception), "output 0 can reach 74541 steps; its word takes 32767: a bound of at "
+                         "most 13187, or 18 bits, or a last place of 2^2")
 
 
 class Sources(testing.InAFolder):

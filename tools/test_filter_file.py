@@ -527,7 +527,7 @@ class Designs(ToolTest):
 
 
 class Page(unittest.TestCase):
-    """The examples of tools/README.md put what stands there; those with scipy depend on its version."""
+    """The examples of filter_file.py in tools/README.md put what stands there; those with scipy hang on its version."""
 
     @unittest.skipUnless(shutil.which("bash"), "there is no bash")
     def test_examples(self):
@@ -535,7 +535,7 @@ class Page(unittest.TestCase):
         ran = 0
         for block in blocks:
             command = re.match(r"(?:[^\n]*\\\n)*[^\n]*\n", block).group()
-            if "scipy" not in command:
+            if "filter_file.py" in command and "scipy" not in command:
                 got = subprocess.run(["bash", "-c", command], cwd=TOOL.parent.parent, stdout=subprocess.PIPE,
                                      stderr=subprocess.STDOUT, check=False)
                 self.assertEqual(got.stdout.decode(), block[len(command):] + "\n", command)

@@ -48,7 +48,8 @@ class Records(testing.InAFolder):
         for line in ["verdict: accepted", "program: proved, a toolchain",
                      "formats: form tf, structure df1, rounding floor, accumulator 64, word 32",
                      "input 0: 16 bits, last place 2^-15, no word above 16384 in magnitude",
-                     "  error at most 1.000000000 steps of 2^-15, the value 0.000030517578125, 90.3 dB below full scale",
+                     "  error at most 1.000000000 steps of 2^-15, the value 0.000030517578125, "
+                     "90.3 dB below full scale",
                      "  error 0 1.000000000"]:
             self.assertIn(line + "\n", put)
         for name in NAMES:
