@@ -67,9 +67,9 @@ none_found f fails h =
 
 listed_step : (m x : ℕ) (xs : List ℕ) (why : Option LengthFail) (later : Option ℕ) →
     (later ≡ Some m → Contains xs m) → serving_or x why later ≡ Some m → Contains (x ∷ xs) m
-listed_step m x xs None later rest e = (let same : x ≡ m = cc in (0, (omega arith, same)))
+listed_step m x xs None later rest e = (let same : x ≡ m = cc in (0, omega arith, same))
 listed_step m x xs (Some fail) later rest e =
-    (let on = rest e in (suc on.0, ((let below = on.1.0 in omega (arith, below)), on.1.1)))
+    (let (k, below, same) = rest e in (suc k, omega (arith, below), same))
 
 pub serving_listed : (f : Filter) (ms : List ℕ) (m : ℕ) → first_serving (original_net f) f ms ≡ Some m →
     Contains ms m

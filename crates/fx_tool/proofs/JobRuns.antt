@@ -65,6 +65,7 @@ answer_is_no_run number fails e =
 
 pub number_is_served : (number : ℕ) (job : Job) → IsRun (sections_of number) (samples_state number) job →
     CodeFits job.made.program → CertificateFits job.made.cert → NumberIsServed number
+unfolding NumberIsServed
 number_is_served number job h fits fit =
     let f = number_filter number in
     let made = made_is number job.made h.made in
@@ -74,7 +75,7 @@ number_is_served number job h fits fit =
 
 pub large_done : (number : ℕ) (before after : Option (List ℕ)) → (large_answer number).status ≡ Done →
     NumberIsServed number → GrowsBy (large_answer number).text before after → Larges number before after
-unfolding large_answer
+unfolding large_answer NumberIsServed
 large_done number before after h served grows =
     let f = number_filter number in
     let first = search_done f (λ c p. run_for number c p) (found f) refl h in

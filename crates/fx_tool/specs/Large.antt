@@ -54,7 +54,7 @@ large_plan names = Ends (large_answer (operand_number names))
 -- ---- what holds beside the answer, where that is status 0
 
 -- what is made passes for the number's filter, and is sound for it
-abbrev pub NumberIsServed : ℕ → Type 0
+unfoldable pub NumberIsServed : ℕ → Type 0
 NumberIsServed number = OfFirst (number_filter number) (λ p c. PassesSound (number_filter number) p c)
 
 -- ---- status 0
