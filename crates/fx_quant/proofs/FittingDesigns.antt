@@ -36,7 +36,8 @@ rows_fit f formats g bare fits few e =
       reads = λ i h. subst (λ r. ReadsFit i u (sized 0 r)) (sym (row i h).1)
           (reads_fit formats.mode g (form_net f) n u i (omega (arith, h, all.count)) fits.rows_high);
       there = λ i h. subst (λ r. All (λ (t : CodeTerm). OldIsThere (length bare) t.from) r.terms) (sym (row i h).1)
-          (subst (λ k. All (λ (t : CodeTerm). OldIsThere k t.from) (bare_row formats.mode (kept_terms g (form_net f) n u i)).terms)
+          (subst (λ k. All (λ (t : CodeTerm). OldIsThere k t.from)
+          (bare_row formats.mode (kept_terms g (form_net f) n u i)).terms)
           (sym all.count) (reads_there formats.mode g (form_net f) n u i));
       few = omega (
         arith,

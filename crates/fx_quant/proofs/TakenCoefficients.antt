@@ -370,7 +370,8 @@ rounded_rows f formats guards fraction d small e =
     subst (RowsTakeTheForms f formats guards fraction) same (record {
       takes = λ i which j h l. subst (λ r. Takes g i r (read which j) (coefficients net which i j)) (sym (row i h))
           (row_takes formats.mode g net n u i which j (sources_are f i which j l) (small which i j));
-      reduced = λ i h. subst IsReduced (sym (row i h)) (row_is_reduced formats.mode g net n u i (λ which j. small which i j));
+      reduced = λ i h. subst IsReduced (sym (row i h))
+          (row_is_reduced formats.mode g net n u i (λ which j. small which i j));
       modes = λ i h. ap (λ (r : BareRow). r.mode) (row i h);
     })
   where

@@ -66,8 +66,8 @@ impl Design {
 
     /// Writes the rows of a design that fits into a net, from row `at` on: what a row takes of a source is the term's
     /// coefficient, shifted to the left, over 2 to the power of the row's right shift. A row's class, the half steps
-    /// that it may be off, is 0 where its right shift is 0, else 1 to the nearest and 2 where it floors. The rows have to
-    /// fit into the net, and to be empty there; the other rows stay.
+    /// that it may be off, is 0 where its right shift is 0, else 1 to the nearest and 2 where it floors. The rows have
+    /// to fit into the net, and to be empty there; the other rows stay.
     pub fn put_net<const N: usize>(&self, net: &mut Net<N>, at: usize)
         requires design { DesignFits self.now }
         requires room { at + length self.now.rows ≤ N }
