@@ -53,4 +53,5 @@ pub record IsReportOf (filter : Filter) (p : Code) (c : Certificate) (report : R
 abbrev pub PartsAddUp : Type 0
 PartsAddUp =
     (filter : Filter) (p : Code) (c : Certificate) (o : ℕ) → whole_of (parts_at filter p c o)
-    ≡ target_total (judged_net filter p) (start_of (pair_of filter p o)) (output_length c o) (bound_of filter) (bound_at c)
+    ≡ target_total (judged_net filter p) (start_of (pair_of filter p o)) (output_length c o) (bound_of filter)
+    (bound_at c)

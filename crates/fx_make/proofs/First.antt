@@ -106,5 +106,6 @@ first_is_found f s c passing e = first_passes (tried f s) (candidates f.settings
 
 pub each_failure_is_told : EachFailureIsTold
 each_failure_is_told f s fails e =
-    let on : AreMore (tried f s) (candidates f.settings) [] fails = all_fail (tried f s) (candidates f.settings) [] fails e in
+    let on : AreMore (tried f s) (candidates f.settings) [] fails =
+    all_fail (tried f s) (candidates f.settings) [] fails e in
     subst (λ (told : List Failed). EachFails (tried f s) (candidates f.settings) told) (sym on.joined) on.each

@@ -21,7 +21,8 @@ use Rattle.fx_make.specs.declared.refusal.StructureFault.{StructureFault}
 -- the bounds with which a candidate passes are the least of all that serve at its length
 abbrev pub HasLeastBounds : Filter → Candidate → Passing → Type 0
 HasLeastBounds f c p =
-    AreLeastBounds (candidate_net f p.design.rows) (candidate_count f p.design.rows) (λ j. c.length) (bound_of f) p.bounds
+    AreLeastBounds (candidate_net f p.design.rows) (candidate_count f p.design.rows) (λ j. c.length) (bound_of f)
+    p.bounds
 
 -- A program with the rows of a candidate that passes, whose inner words have the least widths that take their bounds,
 -- and a certificate with its bounds, the least that serve at the candidate's length, and its totals; they meet all

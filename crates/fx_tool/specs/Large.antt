@@ -60,8 +60,8 @@ NumberIsServed number = OfFirst (number_filter number) (λ p c. PassesSound (num
 -- ---- status 0
 
 -- What is made of the first candidate that passes for the number's filter, with the least bounds that serve, meets all
--- inequalities, so that its program is sound for the filter with the certificate's errors; and its design and the summary of its run on the number's
--- samples were put.
+-- inequalities, so that its program is sound for the filter with the certificate's errors; and its design and the
+-- summary of its run on the number's samples were put.
 pub record Larges (number : ℕ) (before after : Option (List ℕ)) : Type 0 where
   pub candidate : Candidate
   pub passing : Passing

@@ -104,8 +104,9 @@ FilterIsServed bytes = IsOkAnd (filter_of_bytes bytes) IsServed
 -- ---- status 0
 
 -- The three files, as the run leaves them, are those of a filter and of the program and the certificate that are made
--- of the first candidate that passes for it: its bounds are the least that serve, all inequalities hold, the program is sound for the filter with the
--- certificate's errors, `check` of the files ends with status 0, and the design and its errors were put.
+-- of the first candidate that passes for it: its bounds are the least that serve, all inequalities hold, the program
+-- is sound for the filter with the certificate's errors, `check` of the files ends with status 0, and the design and
+-- its errors were put.
 pub record Makes (files : Files) (filter_name code_name certificate_name : List ℕ)
     (before after : Option (List ℕ)) : Type 0 where
   pub filter : Filter

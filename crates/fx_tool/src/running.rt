@@ -161,9 +161,9 @@ pub fn run<S: Shelf, K: Sink>(alloc: Global, words: &[String], shelf: &mut S, ou
 }
 
 /// A law with nothing to run: which status the answer of `check` has, where the files before are there and have at most
-/// `LONGEST_FILE` bytes. A run ends with that, or with 8, 9 or 12. 3 comes exactly where the first file is that of no filter, 4 exactly where the second spells
-/// no program, 5 exactly where the third is the text of no certificate, 1 exactly where an inequality fails, and 0
-/// exactly where all hold, with the lines of the certificate's errors.
+/// `LONGEST_FILE` bytes. A run ends with that, or with 8, 9 or 12. 3 comes exactly where the first file is that of no
+/// filter, 4 exactly where the second spells no program, 5 exactly where the third is the text of no certificate,
+/// 1 exactly where an inequality fails, and 0 exactly where all hold, with the lines of the certificate's errors.
 pub fn check_ends_by_its_files()
     ensures bad_filter { BadFilterExactly }
     ensures bad_code { BadCodeExactly }
