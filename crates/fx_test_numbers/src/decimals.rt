@@ -10,8 +10,8 @@ fn number(text: &[u8]) -> Option<(i64, u128)> {
     }
 }
 
-#[test]
-fn fractions_of_texts(rt: HostRuntime) {
+// Whether they are as the table says.
+fn fractions_of_texts_hold() -> bool {
     let ten_to_18 = 1000000000000000000;
     let table = [
         (b"0".as_slice(), 0, 1),
@@ -31,12 +31,20 @@ fn fractions_of_texts(rt: HostRuntime) {
         (b"16777215.9".as_slice(), 167772159, 10),
     ];
     for (text, num, den) in table {
-        assert_eq!(rt; number(text), Some((num, den)), "{num}");
+        if number(text) != Some((num, den)) {
+            return false;
+        }
     }
+    true
 }
 
 #[test]
-fn texts_that_end_early(rt: HostRuntime) {
+fn fractions_of_texts(rt: HostRuntime) {
+    assert!(rt; fractions_of_texts_hold());
+}
+
+// Whether they are as the table says.
+fn texts_that_end_early_hold() -> bool {
     for text in [
         b"".as_slice(),
         b".".as_slice(),
@@ -44,8 +52,16 @@ fn texts_that_end_early(rt: HostRuntime) {
         b"1e".as_slice(),
         b"1e+".as_slice(),
     ] {
-        assert!(rt; matches!(read_decimal(text), Err(DecimalFault::Empty)));
+        if !matches!(read_decimal(text), Err(DecimalFault::Empty)) {
+            return false;
+        }
     }
+    true
+}
+
+#[test]
+fn texts_that_end_early(rt: HostRuntime) {
+    assert!(rt; texts_that_end_early_hold());
 }
 
 // Where the first byte stands that cannot go on a numeral.
@@ -56,8 +72,8 @@ fn bad_place(text: &[u8]) -> Option<usize> {
     }
 }
 
-#[test]
-fn bytes_that_do_not_go_on(rt: HostRuntime) {
+// Whether they are as the table says.
+fn bytes_that_do_not_go_on_hold() -> bool {
     let table = [
         (b"e5".as_slice(), 0),
         (b".e5".as_slice(), 1),
@@ -66,39 +82,64 @@ fn bytes_that_do_not_go_on(rt: HostRuntime) {
         (b"--1".as_slice(), 1),
     ];
     for (text, place) in table {
-        assert_eq!(rt; bad_place(text), Some(place));
+        if bad_place(text) != Some(place) {
+            return false;
+        }
     }
+    true
 }
 
 #[test]
-fn numbers_out_of_range(rt: HostRuntime) {
+fn bytes_that_do_not_go_on(rt: HostRuntime) {
+    assert!(rt; bytes_that_do_not_go_on_hold());
+}
+
+// Whether they are as the table says.
+fn numbers_out_of_range_hold() -> bool {
     for text in [
         b"1.234567890123456789".as_slice(),
         b"1234567890123456789e-99".as_slice(),
     ] {
-        assert!(rt; matches!(read_decimal(text), Err(DecimalFault::TooManyDigits)));
+        if !matches!(read_decimal(text), Err(DecimalFault::TooManyDigits)) {
+            return false;
+        }
     }
     for text in [
         b"0.00000000000000000000000000001".as_slice(),
         b"1e-99999999999999999999".as_slice(),
     ] {
-        assert!(rt; matches!(read_decimal(text), Err(DecimalFault::TooFine)));
+        if !matches!(read_decimal(text), Err(DecimalFault::TooFine)) {
+            return false;
+        }
     }
     for text in [
         b"16777216".as_slice(),
         b"-1e99999999999999999999".as_slice(),
     ] {
-        assert!(rt; matches!(read_decimal(text), Err(DecimalFault::TooLarge)));
+        if !matches!(read_decimal(text), Err(DecimalFault::TooLarge)) {
+            return false;
+        }
     }
+    true
 }
 
 #[test]
-fn numbers_are_printed_rounded(rt: HostRuntime) {
+fn numbers_out_of_range(rt: HostRuntime) {
+    assert!(rt; numbers_out_of_range_hold());
+}
+
+// Whether numbers are printed so, up and down.
+fn numbers_are_printed_hold() -> bool {
     let above_one = 18446744073709552016;
-    assert!(rt; print_up(above_one, 9).bytes() == b"1.000000001".as_slice());
-    assert!(rt; print_up(-1, 9).bytes() == b"0.000000000".as_slice());
-    assert!(rt; print_down(-1, 9).bytes() == b"-0.000000001".as_slice());
-    assert!(rt; print_down(above_one, 1).bytes() == b"1.0".as_slice());
+    print_up(above_one, 9).bytes() == b"1.000000001".as_slice()
+        && print_up(-1, 9).bytes() == b"0.000000000".as_slice()
+        && print_down(-1, 9).bytes() == b"-0.000000001".as_slice()
+        && print_down(above_one, 1).bytes() == b"1.0".as_slice()
+}
+
+#[test]
+fn numbers_are_printed(rt: HostRuntime) {
+    assert!(rt; numbers_are_printed_hold());
 }
 
 // Whether a fraction over a power of ten is printed so.
@@ -109,8 +150,8 @@ fn is_printed(num: i64, places: u8, text: &[u8]) -> bool {
     }
 }
 
-#[test]
-fn fractions_are_printed(rt: HostRuntime) {
+// Whether they are as the table says.
+fn fractions_are_printed_hold() -> bool {
     let table = [
         (300, 3, b"0.3".as_slice()),
         (-1200, 2, b"-12".as_slice()),
@@ -118,6 +159,14 @@ fn fractions_are_printed(rt: HostRuntime) {
         (-1, 28, b"-0.0000000000000000000000000001".as_slice()),
     ];
     for (num, places, text) in table {
-        assert!(rt; is_printed(num, places, text), "{num}");
+        if !is_printed(num, places, text) {
+            return false;
+        }
     }
+    true
+}
+
+#[test]
+fn fractions_are_printed(rt: HostRuntime) {
+    assert!(rt; fractions_are_printed_hold());
 }

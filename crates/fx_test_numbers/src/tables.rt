@@ -82,36 +82,38 @@ fn three_entries(alloc: Global) -> Result<Cross, AllocError> {
     Ok(table)
 }
 
+// Whether walks meet the entries in their order.
+fn walks_hold(alloc: Global) -> Result<bool, AllocError> {
+    let table = three_entries(alloc)?;
+    Ok(
+        counts(&table) == [3; 4]
+            && along(&table, 0) == [(1, 5), (2, 7), (9, 0)]
+            && along(&table, 1) == [(9, 0); 3]
+            && down(&table, 2) == [(0, 7), (2, 9), (9, 0)]
+            && first_columns(&table, 0) == Some((1, 2))
+            && first_rows(&table, 2) == Some((0, 2)),
+    )
+}
+
 #[test]
 fn walks_meet_the_entries(rt: HostRuntime) -> Result<(), Fail> {
-    let table = three_entries(rt.alloc())?;
-    assert_eq!(rt; counts(&table), [3; 4]);
-    assert_eq!(rt; along(&table, 0), [(1, 5), (2, 7), (9, 0)]);
-    assert_eq!(rt; along(&table, 1), [(9, 0); 3]);
-    assert_eq!(rt; down(&table, 2), [(0, 7), (2, 9), (9, 0)]);
-    assert_eq!(rt;
-        (first_columns(&table, 0), first_rows(&table, 2)),
-        (Some((1, 2)), Some((0, 2)))
-    );
+    assert!(rt; walks_hold(rt.alloc())?);
     Ok(())
+}
+
+// Whether an entry that is set to 0 gives room for another.
+fn room_holds(alloc: Global) -> Result<bool, AllocError> {
+    let mut table = three_entries(alloc)?;
+    free(&mut table, 0, 2);
+    let freed = number(&table, 0, 2) == Some(0) && counts(&table) == [3, 3, 3, 2];
+    set(&mut table, 1, 2, 4);
+    let used = down(&table, 2) == [(1, 4), (2, 9), (9, 0)] && counts(&table) == [3; 4];
+    table.clear();
+    Ok(freed && used && down(&table, 2) == [(9, 0); 3] && counts(&table) == [3, 3, 3, 0])
 }
 
 #[test]
 fn freed_entries_give_room(rt: HostRuntime) -> Result<(), Fail> {
-    let mut table = three_entries(rt.alloc())?;
-    free(&mut table, 0, 2);
-    assert_eq!(rt;
-        (number(&table, 0, 2), counts(&table)),
-        (Some(0), [3, 3, 3, 2])
-    );
-    set(&mut table, 1, 2, 4);
-    assert_eq!(rt; (number(&table, 1, 2), counts(&table)), (Some(4), [3; 4]));
-    assert_eq!(rt; down(&table, 2), [(1, 4), (2, 9), (9, 0)]);
-    assert_eq!(rt; first_columns(&table, 0), None);
-    table.clear();
-    assert_eq!(rt;
-        (down(&table, 2), counts(&table)),
-        ([(9, 0); 3], [3, 3, 3, 0])
-    );
+    assert!(rt; room_holds(rt.alloc())?);
     Ok(())
 }

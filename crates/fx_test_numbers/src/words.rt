@@ -11,8 +11,8 @@ fn number_at(text: &[u8], at: usize, limit: u128) -> Option<(u128, usize)> {
     whole_at(text, at, limit)
 }
 
-#[test]
-fn whole_numbers_of_texts(rt: HostRuntime) {
+// Whether they are as the table says.
+fn whole_numbers_of_texts_hold() -> bool {
     let table = [
         (b"a120,".as_slice(), 1, 121, Some((120, 4))),
         (b"a120,".as_slice(), 1, 120, None),
@@ -28,18 +28,31 @@ fn whole_numbers_of_texts(rt: HostRuntime) {
         ),
     ];
     for (text, at, limit, wanted) in table {
-        assert_eq!(rt; number_at(text, at, limit), wanted, "{at} {limit}");
+        if number_at(text, at, limit) != wanted {
+            return false;
+        }
     }
+    true
+}
+
+#[test]
+fn whole_numbers_of_texts(rt: HostRuntime) {
+    assert!(rt; whole_numbers_of_texts_hold());
+}
+
+// Whether bytes are blanks, and signs are put, as they should be.
+fn blanks_and_signs_hold() -> bool {
+    for (byte, blank) in [(b' ', true), (b'\t', true), (b'\n', true), (b'0', false)] {
+        if is_blank(byte) != blank {
+            return false;
+        }
+    }
+    signed(true, 17) == -17 && signed(false, 17) == 17 && signed(true, 0) == 0
 }
 
 #[test]
 fn blanks_and_signs(rt: HostRuntime) {
-    for (byte, blank) in [(b' ', true), (b'\t', true), (b'\n', true), (b'0', false)] {
-        assert_eq!(rt; is_blank(byte), blank, "{byte}");
-    }
-    for (negative, magnitude, number) in [(true, 17, -17), (false, 17, 17), (true, 0, 0)] {
-        assert_eq!(rt; signed(negative, magnitude), number, "{number}");
-    }
+    assert!(rt; blanks_and_signs_hold());
 }
 
 // The least width of words with a bound, if it is one.
@@ -50,8 +63,8 @@ fn width_of(bound: i64) -> Option<u8> {
     Some(least_width(bound))
 }
 
-#[test]
-fn least_widths(rt: HostRuntime) {
+// Whether they are as the table says.
+fn least_widths_hold() -> bool {
     let table = [
         (0, 2),
         (1, 2),
@@ -68,8 +81,16 @@ fn least_widths(rt: HostRuntime) {
         (2147483647, 32),
     ];
     for (bound, width) in table {
-        assert_eq!(rt; width_of(bound), Some(width), "{bound}");
+        if width_of(bound) != Some(width) {
+            return false;
+        }
     }
+    true
+}
+
+#[test]
+fn least_widths(rt: HostRuntime) {
+    assert!(rt; least_widths_hold());
 }
 
 // Whether an accumulator takes the sums of a row, if its bound, its shift and the accumulator are within their limits.
@@ -80,10 +101,12 @@ fn sums_fit(bound: i64, shift: u8, bits: u8) -> Option<bool> {
     Some(accumulator_fits(bound, shift, bits))
 }
 
-#[test]
-fn accumulators(rt: HostRuntime) {
+// Whether they are as the table says.
+fn accumulators_hold() -> bool {
     for (bits, listed) in [(16, true), (32, true), (64, true), (0, false), (24, false)] {
-        assert_eq!(rt; is_accumulator(bits), listed, "{bits}");
+        if is_accumulator(bits) != listed {
+            return false;
+        }
     }
     let table = [
         (0, 15, 16, true),
@@ -97,19 +120,28 @@ fn accumulators(rt: HostRuntime) {
         (1, 63, 64, false),
     ];
     for (bound, shift, bits, fits) in table {
-        assert_eq!(rt;
-            sums_fit(bound, shift, bits),
-            Some(fits),
-            "{bound} {shift} {bits}"
-        );
+        if sums_fit(bound, shift, bits) != Some(fits) {
+            return false;
+        }
     }
+    true
+}
+
+#[test]
+fn accumulators(rt: HostRuntime) {
+    assert!(rt; accumulators_hold());
+}
+
+// Whether the highest bits of words stand where they should.
+fn tops_hold() -> bool {
+    top_position(8, -4) == 3
+        && top_position(2, -64) == -63
+        && top_position(32, 63) == 94
+        && top_position(0, 0) == -1
+        && top_position(1, 32767) == 32767
 }
 
 #[test]
 fn top_positions(rt: HostRuntime) {
-    assert_eq!(rt; top_position(8, -4), 3);
-    assert_eq!(rt; top_position(2, -64), -63);
-    assert_eq!(rt; top_position(32, 63), 94);
-    assert_eq!(rt; top_position(0, 0), -1);
-    assert_eq!(rt; top_position(1, 32767), 32767);
+    assert!(rt; tops_hold());
 }
