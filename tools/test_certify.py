@@ -111,7 +111,7 @@ class Searches(unittest.TestCase):
         for share in [0.5, 0.9, 0.99]:
             judge = FakeJudge([100.0], share, [20000], {64: 0, 256: 0})
             least = 100 / (1 - share)
-            self.assertTrue(round(least) <= self.found(judge).bounds[0] <= 2 * least, share)
+            self.assertTrue(round(least) <= self.found(judge).bounds[0] <= 2.5 * least, share)
             self.assertLess(judge.runs, 40)
 
     def test_feedback_that_just_fits(self):

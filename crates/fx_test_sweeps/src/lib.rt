@@ -1,6 +1,8 @@
-//! Sweeps and totals, against values worked by hand: tests alone.
+//! Sweeps, totals and jobs of numbers, against values worked apart: tests alone.
 #![tactic(auto)]
 
+#[cfg(test)]
+mod jobs;
 #[cfg(test)]
 mod limits;
 #[cfg(test)]
