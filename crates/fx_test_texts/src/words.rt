@@ -14,13 +14,15 @@ fn words_of(alloc: Global, texts: &[&str]) -> Result<Vec<String>, AllocError> {
 
 // Whether these are the texts.
 fn are_texts(names: &[String], texts: &[&str]) -> bool {
-    match (names, texts) {
-        ([], []) => true,
-        ([name, names @ ..], [text, texts @ ..]) => {
-            name.as_str() == *text && are_texts(names, texts)
-        }
-        _ => false,
+    if names.len() != texts.len() {
+        return false;
     }
+    for i in 0..names.len() {
+        if names[i].as_str() != texts[i] {
+            return false;
+        }
+    }
+    true
 }
 
 // Whether the words ask for the command of this word with these names.
